@@ -161,6 +161,16 @@ def ends(event, occurrence):
     return tuple(event) == occurrence
 
 
+def patterns(event, occurrence, path):
+    """The paths of the patterns of an event at a path that an occurrence may end."""
+    form = event[0]
+    places = (1, 2) if form == "or" else (2,) if form in ("seq", "closure") else ()
+    if not places and ends(event, occurrence):
+        yield path
+    for place in places:
+        yield from patterns(event[place], occurrence, f"{path}/{place}")
+
+
 def moments_named(event, clock, until):
     """The moments after the clock up to `until` that the event names."""
     form = event[0]
@@ -235,6 +245,37 @@ class Base:
             rules = self.after[found[-1]]
         return found
 
+    def ended(self, m, occurrence):
+        """The paths of the patterns of a rule's event that an occurrence may end."""
+        return patterns(self.rules[m][1], occurrence, f"/rules/{m}/1") if m in self.present else ()
+
+    def links(self, body, path, m):
+        """The paths of the statements in a body that may trigger a rule, each with the path of what it ends."""
+        for number, (form, *given) in enumerate(body):
+            here = f"{path}/{number}"
+            if form in ("create", "update", "delete", "signal"):
+                yield from ((here, end) for end in self.ended(m, (form, given[0])))
+            if form == "fire" and self.number[given[0]] == m:
+                yield here, f"/rules/{m}"
+            for place in INSIDE.get(form, ()):
+                yield from self.links(given[place - 1], f"{here}/{place}", m)
+
+    def link(self, n, m):
+        """The line of what links two rules of a chain."""
+        rule = self.rules[n]
+        modes = [f"/rules/{n}/{place}" for place in (2, 4) if rule[place] in DETACHED]
+        found = [*self.links(rule[5] if n in self.present else [], f"/rules/{n}/5", m),
+                 *((mode, end) for mode in modes for end in self.ended(m, COMMIT))]
+        return f"by {found[0][0]} {found[0][1]}"
+
+    def chain_lines(self, rules):
+        """The lines of the first chain of more firings than may nest."""
+        chain = self.chain(rules)
+        for n, m in zip(chain, [*chain[1:], None]):
+            yield f"chain /rules/{n} {self.rules[n][0]}"
+            if m is not None:
+                yield self.link(n, m)
+
     def installed_in(self, body):
         """The rules that a body may install."""
         own = {self.number[each[1]] for each in body if each[0] == "install"}
@@ -266,7 +307,7 @@ def findings(script, is_kinded):
     return [
         f"depth {known} of {base.limit}" if known else here,
         "guards closed" if is_kinded and not any(openings) else "guards unknown",
-        *(f"chain /rules/{n} {names[n]}" for n in (base.chain(base.every) if own else among.chain(begun))),
+        *(base.chain_lines(base.every) if own else among.chain_lines(begun)),
         *(f"open /rules/{n}/{part} {names[n]}" for n, part in enumerate(openings) if part),
         *(f"{'never' if n in among.present else 'uninstalled'} /rules/{n} {name}" for n, name in enumerate(names)
           if n not in among.present or n not in reached),

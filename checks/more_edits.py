@@ -15,7 +15,9 @@ crate below it or the toolchain changes. `--anew` tries all again. `--untried` t
 `# untried`. Several runs may work side by side on different crates.
 
 It prints what came of each edit, and how many are left; the last line counts them all. The status is 0 if
-each edit applies and was refused, 1 if one wasn't, and 130 if the run was interrupted. The copy is then removed.
+each edit applies and was refused, 1 if one wasn't, and 130 if the run was interrupted. The copy is then removed. An
+edit isn't refused if the prover complains only of a proof that names what the edit took away, or of a search that ended
+at a limit: then no contract was shown to fail.
 """
 
 import contextlib
@@ -44,9 +46,10 @@ CRATES = repo.crates()
 UNTRIED = "# untried"
 
 # What an edit can come to. The second: the only complaints are of a proof file that names what the edit took away, so
-# that no contract was tried.
+# that no contract was tried. The third: `search` found no proof within its limits, and the contract may still hold.
 REFUSED = "refused"
-BY_NAME = "refused, since a proof names what it took away"
+BY_NAME = "only refused since a proof names what it took away"
+AT_LIMIT = "only refused at a limit of search"
 PROVED = "NOT REFUSED"
 BAD = "bad"
 NOT_TRIED = "not tried"
@@ -63,6 +66,9 @@ UNPROVED = re.compile(
 # proof that does.
 UNREAD = re.compile(r"is not in scope|has no field|is no name|operand is missing|expected the end|cannot continue")
 NO_SUCH_NAME = re.compile(r"has no field|is not in scope|has no `|was not admitted|which was rejected")
+
+# What is said of a search that ended at a limit.
+GAVE_UP = "gave up at one of its limits"
 
 # A line that says that a function has no proof: since no search found one, or since none was begun.
 NO_PROOF = re.compile(r"fn \S+: no proof: ")
@@ -328,7 +334,7 @@ def refused_of(group, status, lines, changed):
     places = [(UNPROVED.match(line), line) for line in lines if not NO_SUCH_NAME.search(line)]
     found = {}
     for body in group:
-        of_it = (line for place, line in places if place and body.has(place[1], int(place[2])))
+        of_it = (line for place, line in places if place and body.has(place[1], int(place[2])) and GAVE_UP not in line)
         shown = next(of_it, None)
         if shown:
             found[body.path] = shown
@@ -345,11 +351,10 @@ def came_to(status, lines, changed):
     if status != 1 or not any(line.startswith("logic=not-proved") for line in lines):
         return BAD, next((line for line in lines if "error" in line), lines[-1])
     shown = complaints(lines) + [line for line in lines if UNPROVED.match(line) and not COMPLAINT.match(line)]
+    shown += [line for line in lines if SEARCHED.match(line)]
     if shown:
-        return REFUSED, shown[0]
-    searched = [line for line in lines if SEARCHED.match(line)]
-    if searched:
-        return REFUSED, searched[0]
+        judged = [line for line in shown if GAVE_UP not in line]
+        return (REFUSED, judged[0]) if judged else (AT_LIMIT, shown[0])
     told = [line for line in lines if COMPLAINT.match(line)]
     if told:
         return BY_NAME, told[0]
@@ -422,7 +427,7 @@ class Count:
         self.left -= number
 
     def refused(self):
-        return self.kinds.get(REFUSED, 0) + self.kinds.get(BY_NAME, 0)
+        return self.kinds.get(REFUSED, 0)
 
     def __str__(self):
         others = [f"{number} {kind}" for kind, number in self.kinds.items() if kind != REFUSED]
@@ -447,7 +452,7 @@ class Tries:
         self.names.setdefault(kind, []).append(name)
         spent = f"{seconds:.0f} seconds, {self.count.left} left"
         print(f"{time.strftime('%H:%M:%S')} {self.crate}/{name}: {kind}: {shown.strip()[:200]} ({spent})", flush=True)
-        if kind in (REFUSED, BY_NAME):
+        if kind == REFUSED:
             self.results.keep(path)
 
     def one(self, path):

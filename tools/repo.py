@@ -58,6 +58,7 @@ COSTS = {
     "hipac": 320,
     "hipac_live": 230,
     "hipac_check": 150,
+    "hipac_text": 100,
     "bank": 360,
 }
 # The cost of a crate that isn't in the table.

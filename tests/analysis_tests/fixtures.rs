@@ -62,6 +62,14 @@ fn add_step(alloc: Global, text: &mut String, step: &PathStep) -> Result<(), All
     Ok(())
 }
 
+/// Adds a path.
+pub fn add_path(alloc: Global, text: &mut String, path: &[PathStep]) -> Result<(), AllocError> {
+    for step in path {
+        add_step(alloc, text, step)?;
+    }
+    Ok(())
+}
+
 fn reason_text(alloc: Global, reason: Reason) -> Result<String, AllocError> {
     if let Reason::Unsuited { wanted, given } = reason {
         let (wanted, given) = (wanted_name(wanted), sort_name(given));
@@ -79,9 +87,7 @@ fn add_finding(alloc: Global, text: &mut String, found: &KindFinding) -> Result<
         let unit = format!(in alloc; "unit {number} ")?;
         text.push_str(unit.as_str())?;
     }
-    for step in &found.finding.path {
-        add_step(alloc, text, step)?;
-    }
+    add_path(alloc, text, &found.finding.path)?;
     let why = reason_text(alloc, found.finding.reason)?;
     text.push_str(" ")?;
     text.push_str(why.as_str())

@@ -89,6 +89,68 @@ fn knows_the_parts_of_composite_events(rt: HostRuntime) -> Result<(), Fail> {
     )
 }
 
+/// An event that ends where one of these does.
+fn any_of(alloc: Global, events: &[&str]) -> Result<String, Fail> {
+    let mut any = String::from_str(alloc, r#"["commit"]"#)?;
+    for (i, event) in events.iter().enumerate() {
+        any = if i == 0 {
+            String::from_str(alloc, event)?
+        } else {
+            format!(in alloc; r#"["or", {any}, {event}]"#)?
+        };
+    }
+    Ok(any)
+}
+
+#[test]
+fn knows_a_part_of_many_patterns(rt: HostRuntime) -> Result<(), Fail> {
+    let (created, updated) = (r#"["create", "item"]"#, r#"["update", "item"]"#);
+    let six = [created, updated, created, updated, created, updated];
+    let changed = any_of(rt.alloc(), &six)?;
+    let changed = changed.as_str();
+    let stock = r#"["emit", ["+", ["new", 0, "stock"], ["id", 0]]]"#;
+    expect(&rt, changed, stock, "", "kinded")?;
+    for (part, reason) in [
+        (r#"["old", 0, "stock"]"#, "OtherForm"),
+        (r#"["new", 0, "price"]"#, "NoSuchField"),
+        (r#"["time", 0]"#, "OtherForm"),
+        (r#"["id", 1]"#, "NoSuchPart"),
+    ] {
+        let action = format!(in rt.alloc(); r#"["emit", {part}]"#)?;
+        let expected = format!(in rt.alloc(); "/rules/0/5/0/1 {reason}")?;
+        expect(&rt, changed, action.as_str(), "", expected.as_str())?;
+    }
+    let six = [
+        created,
+        updated,
+        created,
+        updated,
+        created,
+        r#"["delete", "item"]"#,
+    ];
+    let mixed = any_of(rt.alloc(), &six)?;
+    expect(&rt, mixed.as_str(), stock, "", "/rules/0/5/0/1/1 OtherForm")
+}
+
+#[test]
+fn infers_what_one_of_many_signals_carries(rt: HostRuntime) -> Result<(), Fail> {
+    let signals = [
+        r#"["signal", "a"]"#,
+        r#"["signal", "b"]"#,
+        r#"["signal", "c"]"#,
+        r#"["signal", "d"]"#,
+        r#"["signal", "e"]"#,
+    ];
+    let event = any_of(rt.alloc(), &signals)?;
+    expect(
+        &rt,
+        event.as_str(),
+        r#"["emit", ["+", ["arg", 0, 0], 1]], ["signal", "a", [["arg", 0, 0]]]"#,
+        r#"["tx", [["signal", "e", ["x"]], ["signal", "d", [1]]]]"#,
+        "unit 1 /0/2/0 int wanted, is text",
+    )
+}
+
 #[test]
 fn tells_what_is_wanted_and_what_is_there(rt: HostRuntime) -> Result<(), Fail> {
     let created = r#"["create", "item"]"#;

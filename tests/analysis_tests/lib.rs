@@ -2,4 +2,5 @@
 
 mod fixtures;
 mod kinds;
+mod links;
 mod values;

@@ -1,7 +1,7 @@
 """Follows a script's course and notes why everything in it happens.
 
 A report says what happened; it doesn't say which query was empty, which signal triggered a rule, or which statement
-aborted a transaction. So the script is run here a second time, slowly, with notes. The program decides: `agrees`
+aborted a transaction. So the script is run here a second time, slowly, with notes. The program decides: `account.py`
 compares its report with the one of this course, and a course that disagrees is not used.
 """
 

@@ -177,6 +177,11 @@ FAULTY_SCRIPTS = [
         "3:12",
         "expected the name of a field, found `key`",
         "the key of the event's object is `event.key`; a field of that name is in backquotes"),
+    FaultyText(
+        "version 1\ntransaction {\n  emit event.who\n}",
+        "3:14",
+        "expected `count`, `key`, `time` or `arg`, found `who`",
+        "an argument of a signal is `event.arg(0)`, a field of the event's object `new.NAME` or `old.NAME`"),
     FaultyText("version 1\ntransaction {\n  emit new[1,2].stock\n}", "3:13", "expected `]`, found `,`"),
     FaultyText("version 1\ntransaction {\n  emit event\n}", "4:1", "expected `[` or `.`, found `}`"),
     FaultyText(

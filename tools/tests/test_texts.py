@@ -110,6 +110,17 @@ class Checked(unittest.TestCase):
         self.assertIn("no `let` is called `stock` here", lines[0])
         self.assertEqual(lines[-1], "  did you mean `i.stock`?")
 
+    def test_a_name_alone_that_is_a_text(self) -> None:
+        lines = told("version 4\nclass item { state: text }\n"
+                     "rule r on update item do { if new.state = sold { veto } }\n")
+        self.assertIn("no `let` is called `sold` here", lines[0])
+        self.assertEqual(lines[-1], '  no `let` is known here; a text is in quotes: `"sold"`')
+
+    def test_arguments_with_names(self) -> None:
+        lines = told("version 4\ntransaction { signal ask(who = 7) }\n")
+        self.assertIn("no `let` is called `who` here", lines[0])
+        self.assertEqual(lines[-1], "  arguments have no names: a rule reads them by their order, as `event.arg(0)`")
+
     def test_hints_are_in_the_notation(self) -> None:
         guard = "rule r on update item do { if new.stock + 1 < 0 { veto } }\ntransaction { install r }\n"
         for version, help_ in ((1, "`sub { .. } otherwise { veto }`"), (4, "`closed`")):

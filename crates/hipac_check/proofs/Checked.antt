@@ -1,7 +1,6 @@
 -- What is written of a script, part by part.
-use Rattle.std.proofs.Common.{◌≡◌, refl, sym, ap, ◌∙◌, subst, ℕ, List, [], ◌∷◌, ◌++◌, take, Option, Some, None, append_assoc, append-nil}
-use Rattle.std.specs.Prelude.{⊤, IfSome}
-use Rattle.std.specs.Io.KnownBytes.{Appends}
+use Rattle.std.proofs.Common.{◌≡◌, refl, sym, ◌∙◌, subst, ℕ, List, [], ◌++◌, take, Option, Some, None, append_assoc, append-nil}
+use Rattle.std.specs.Prelude.{IfSome}
 use Rattle.hp_model.specs.Report.{Bytes}
 use Rattle.hp_model.specs.Kinds.{Declared}
 use Rattle.hp_report.specs.Device.{Begins}

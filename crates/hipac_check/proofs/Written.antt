@@ -1,8 +1,8 @@
 -- Lines that are added one after another are the whole text.
-use Rattle.std.proofs.Common.{◌≡◌, sym, ap, ap₂, ◌∙◌, ℕ, suc, List, [], ◌∷◌, ◌++◌, Bool, append_assoc}
+use Rattle.std.proofs.Common.{◌≡◌, sym, ap, ap₂, ◌∙◌, ℕ, suc, List, ◌∷◌, ◌++◌, Bool, append_assoc}
 use Rattle.hp_model.specs.Rules.{Rule}
 use Rattle.hp_analysis.specs.Guards.{opening}
-use Rattle.hp_analysis.specs.Checking.{link_line, chain_lines, opening_line, opening_lines, idle_line, idle_lines}
+use Rattle.hp_analysis.specs.Checking.{opening_line, opening_lines, idle_line, idle_lines}
 
 pub idle_put : (present reached : List Bool) (n m : ℕ) (r : Rule) (before rs : List Rule) (old new whole : List ℕ) → m ≡ suc n → before ≡ r ∷ rs → new ≡ old ++ idle_line present reached n r
     → old ++ idle_lines present reached n before ≡ whole → new ++ idle_lines present reached m rs ≡ whole
@@ -15,7 +15,3 @@ pub opening_put : (n m : ℕ) (r : Rule) (before rs : List Rule) (old new whole 
 opening_put n m r before rs old new whole next split gained kept =
     ap₂ (λ t k. t ++ opening_lines k rs) gained next ∙ append_assoc old (opening_line n r (opening r)) (opening_lines (suc n) rs)
     ∙ ap (λ xs. old ++ opening_lines n xs) (sym split) ∙ kept
-
-pub chain_put : (rules : List Rule) (n : ℕ) (before ns : List ℕ) (old new whole : List ℕ) → before ≡ n ∷ ns → new ≡ old ++ link_line rules n → old ++ chain_lines rules before ≡ whole → new ++ chain_lines rules ns ≡ whole
-chain_put rules n before ns old new whole split gained kept =
-    ap (λ t. t ++ chain_lines rules ns) gained ∙ append_assoc old (link_line rules n) (chain_lines rules ns) ∙ ap (λ xs. old ++ chain_lines rules xs) (sym split) ∙ kept

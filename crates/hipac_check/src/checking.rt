@@ -6,6 +6,7 @@ ghost use Rattle.hp_report.specs.Device.{Begins};
 ghost use Rattle.hp_report.specs.Text.{Gains};
 ghost use Rattle.hp_rule.specs.Libraries as libraries;
 ghost use Rattle.hp_rule.specs.Mapped.{unit};
+ghost use Rattle.hp_rule.specs.Statements.{rule};
 ghost use Rattle.hp_analysis.specs.Declarations.{declared};
 ghost use Rattle.hp_analysis.specs.Findings.{finds_nothing};
 ghost use Rattle.hp_analysis.specs.FoundKinds.{kind_findings};
@@ -13,15 +14,15 @@ ghost use Rattle.hp_analysis.specs.Depths.{library_depth};
 ghost use Rattle.hp_analysis.specs.Graphs.{seen};
 ghost use Rattle.hp_analysis.specs.Installed.{with_installed};
 ghost use Rattle.hp_analysis.specs.Tables.{script};
-ghost use Rattle.hp_analysis.specs.Witness.{library_chain};
-ghost use Rattle.hp_analysis.specs.Checking.{check_output, findings_text, verdicts_of, have_no_opening, chain_by, IsChecked};
+ghost use Rattle.hp_analysis.specs.Witness.{library_chain, script_chain};
+ghost use Rattle.hp_analysis.specs.Checking.{check_output, findings_text, verdicts_of, have_no_opening, chain_lines, chain_text, IsChecked};
 ghost use Rattle.hipac_check.specs.Ends.{status_of};
 
 use crate::lines::{put_chain, put_idles, put_kind_lines, put_openings};
 use crate::verdicts::{put_depth, put_guards, put_kinds};
 use hp_analysis::{Declaration, Graph, KindFinding, have_no_opening, infer, kind_findings};
 use hp_report::{Fault, ReadFault, Sink, Source, Status, read_up_to, write_text};
-use hp_rule::{Library, Unit};
+use hp_rule::{Library, Rule, Unit};
 use hp_script::{DecodeError, decode, refusal_text};
 use std::alloc::{AllocError, Global};
 
@@ -136,30 +137,48 @@ fn any_depth(alloc: Global, library: &Library) -> Result<Option<u8>, AllocError>
     graph.longest_chain(alloc)
 }
 
-/// A chain of any rules of a library that has more firings than may nest; empty if there is none.
-fn any_chain(alloc: Global, library: &Library) -> Result<Vec<usize>, AllocError>
-    ensures { IfOk result (λ chain. chain.items ≡ library_chain (libraries.library library.now)) }
+/// Adds a chain of any rules of a library that has more firings than may nest; nothing if there is none.
+fn put_any_chain(alloc: Global, text: &mut String, library: &Library) -> Result<(), AllocError>
+    ensures { let whole = libraries.library library.now in
+        OnOk result (Gains text.old text.new (chain_lines whole.rules whole (library_chain whole))) }
 {
     let graph = Graph::of(alloc, library)?;
-    graph.too_long(alloc)
+    let chain = graph.too_long(alloc)?;
+    put_chain(alloc, text, library.rules(), &graph, &chain)
 }
 
-/// A chain of more firings than may nest: one that the units begin, if there may be one, and else one of any rules.
-fn chain_by(
+/// Adds a chain that the units begin in a graph, of more firings than may nest; nothing if there is none.
+fn put_own_chain(
     alloc: Global,
+    text: &mut String,
+    rules: &[Rule],
+    units: &[Unit],
+    graph: &Graph<'_>,
+) -> Result<(), AllocError>
+    ensures { OnOk result (Gains text.old text.new (chain_lines (map rule rules.now) (seen graph.now.triggers)
+        (script_chain (seen graph.now.triggers) (map unit units.now)))) }
+{
+    let chain = graph.too_long_of(alloc, units)?;
+    put_chain(alloc, text, rules, graph, &chain)
+}
+
+/// Adds a chain of more firings than may nest: one that the units begin, if there may be one, and else one of any rules.
+fn put_chain_by(
+    alloc: Global,
+    text: &mut String,
     library: &Library,
     units: &[Unit],
     graph: &Graph<'_>,
     own: Option<u8>,
-) -> Result<Vec<usize>, AllocError>
+) -> Result<(), AllocError>
     requires { seen graph.now.triggers
         ≡ (with_installed (script (libraries.library library.now) (map unit units.now))).library }
-    ensures { IfOk result (λ chain. chain.items
-        ≡ chain_by (script (libraries.library library.now) (map unit units.now)) own) }
+    ensures { OnOk result (Gains text.old text.new
+        (chain_text (script (libraries.library library.now) (map unit units.now)) own)) }
 {
     match own {
-        None => graph.too_long_of(alloc, units),
-        Some(_) => any_chain(alloc, library),
+        None => put_own_chain(alloc, text, library.rules(), units, graph),
+        Some(_) => put_any_chain(alloc, text, library),
     }
 }
 
@@ -212,12 +231,11 @@ fn findings(
     let all = kind_findings(alloc, library, declaration, units)?;
     let graph = Graph::of_installed(alloc, library, units)?;
     let own = graph.longest_chain_of(alloc, units)?;
-    let chain = chain_by(alloc, library, units, &graph, own)?;
     let reached = graph.reached(alloc, units)?;
     let mut text = String::new(alloc);
     put_verdicts(alloc, &mut text, library, is_kinded(&all), own)?;
     put_kind_lines(&mut text, &all)?;
-    put_chain(&mut text, library.rules(), &chain)?;
+    put_chain_by(alloc, &mut text, library, units, &graph, own)?;
     put_openings(&mut text, library.rules())?;
     put_idles(&mut text, graph.installed(), &reached, library.rules())?;
     Ok(text)

@@ -9,16 +9,18 @@ ghost use Rattle.hp_model.specs.Output.{path_text};
 ghost use Rattle.hp_rule.specs.Statements.{rule};
 ghost use Rattle.hp_report.specs.Text.{Gains};
 ghost use Rattle.hp_analysis.specs.FoundKinds.{kind_finding, kind_findings};
+ghost use Rattle.hp_analysis.specs.Graphs.{seen};
 ghost use Rattle.hp_analysis.specs.Guards as guards;
 ghost use Rattle.hp_analysis.specs.Openings as openings;
 ghost use Rattle.hp_analysis.specs.Kinded.{finding};
+ghost use Rattle.hp_analysis.specs.Signalled.{links};
 ghost use Rattle.hp_analysis.specs.Checking as model;
 ghost use Rattle.hipac_check.specs.Words.{idle_word};
 
 use crate::shown::{Path, Why};
-use hp_analysis::{Finding, KindFinding, Opening, has, opening_of};
+use hp_analysis::{Finding, Graph, KindFinding, Link, Opening, has, opening_of};
 use hp_rule::Rule;
-use std::alloc::AllocError;
+use std::alloc::{AllocError, Global};
 use std::fmt::Write;
 
 /// Adds the line of a finding of kinds in a unit.
@@ -105,14 +107,55 @@ fn put_link(out: &mut String, rules: &[Rule], number: usize) -> Result<(), Alloc
     put_rule(out, "chain", number, name)
 }
 
-/// Adds the lines of a chain of firings.
-pub(crate) fn put_chain(out: &mut String, rules: &[Rule], chain: &[usize]) -> Result<(), AllocError>
-    ensures { OnOk result (Gains out.old out.new (model.chain_lines (map rule rules.now) chain.now)) }
+/// Adds the line of what links two rules of a chain, if there is a link.
+fn put_by(out: &mut String, found: &Option<Link>) -> Result<(), AllocError>
+    ensures { OnOk result (Gains out.old out.new (model.by_line (links found.now))) }
 {
-    for n in chain {
-        put_link(out, rules, *n)?;
-    }
+    let Some(link) = found else {
+        return Ok(());
+    };
+    let by = Path(link.by.as_slice());
+    let event = Path(link.event.as_slice());
+    writeln!(out, "by {by} {event}")?;
     Ok(())
+}
+
+/// Adds the line of what links a rule to the next one of a chain, if there is one.
+fn put_next(
+    alloc: Global,
+    out: &mut String,
+    graph: &Graph<'_>,
+    number: usize,
+    later: &[usize],
+) -> Result<(), AllocError>
+    ensures { OnOk result (Gains out.old out.new (model.next_line (seen graph.now.triggers) number later.now)) }
+{
+    match later {
+        [next, ..] => {
+            let link = graph.link(alloc, number, *next)?;
+            put_by(out, &link)
+        }
+        [] => Ok(()),
+    }
+}
+
+/// Adds the lines of a chain of firings in a graph.
+pub(crate) fn put_chain(
+    alloc: Global,
+    out: &mut String,
+    rules: &[Rule],
+    graph: &Graph<'_>,
+    chain: &[usize],
+) -> Result<(), AllocError>
+    ensures { OnOk result (Gains out.old out.new
+        (model.chain_lines (map rule rules.now) (seen graph.now.triggers) chain.now)) }
+{
+    let [n, later @ ..] = chain else {
+        return Ok(());
+    };
+    put_link(out, rules, *n)?;
+    put_next(alloc, out, graph, *n, later)?;
+    put_chain(alloc, out, rules, graph, later)
 }
 
 /// The part of a rule that may fail, by its place in the rule.

@@ -1,3 +1,4 @@
+pub mod Bodies
 pub mod Known
 pub mod All
 pub mod Guarding
@@ -14,5 +15,6 @@ pub mod Judging
 pub mod Keeping
 pub mod LastNames
 pub mod Lengths
+pub mod Linking
 pub mod Placing
 pub mod Signatures

@@ -1,7 +1,7 @@
 -- A library in which the rules outside a set do nothing.
-use Rattle.std.proofs.Common.{◌≡◌, refl, ap, ℕ, suc, List, [], ◌∷◌, length, map, Bool, true, false}
+use Rattle.std.proofs.Common.{arith, ◌≡◌, refl, ap, ap₂, ◌∙◌, ℕ, zero, suc, ◌+◌, List, [], ◌∷◌, length, map, Bool, true, false, Some}
 use Rattle.hp_model.specs.Rules.{Rule, Library}
-use Rattle.std.specs.Prelude.{if◌then◌else◌}
+use Rattle.std.specs.Prelude.{if◌then◌else◌, option_map, slice_get}
 use Rattle.hp_model.specs.Chains.{may_detach}
 use Rattle.hp_model.specs.Idle.{idle_rule, idle_from}
 use Rattle.hp_analysis.specs.Reached.{has}
@@ -38,3 +38,14 @@ rule_detaches set classes n r = by (has set n)
     by : (b : Bool) → may_detach (if b then r else idle_rule classes r) ≡ may_detach r
     by true = refl
     by false = refl
+
+from_get : (set : List Bool) (classes k n : ℕ) (rules : List Rule) → slice_get (idle_from (has set) classes k rules) n ≡ option_map (rule_in set classes (k + n)) (slice_get rules n)
+from_get set classes k n [] = refl
+from_get set classes k zero (r ∷ rs) = let e : k ≡ k + 0 = omega arith in ap (λ j. Some (rule_in set classes j r)) e
+from_get set classes k (suc n) (r ∷ rs) = let e : suc k + n ≡ k + suc n = omega arith in from_get set classes (suc k) n rs ∙ ap (λ j. option_map (rule_in set classes j) (slice_get rs n)) e
+
+-- the rule of a number
+pub only_get : (set : List Bool) (library : Library) (n : ℕ) → slice_get (with_only set library).rules n ≡ option_map (rule_in set (length library.classes) n) (slice_get library.rules n)
+only_get set library n =
+    let same : 0 + n ≡ n = omega arith in
+    from_get set (length library.classes) 0 n library.rules ∙ ap (λ j. option_map (rule_in set (length library.classes) j) (slice_get library.rules n)) same

@@ -15,6 +15,7 @@ use Rattle.hp_model.specs.Kinds.{Sort, only, any, Declared, signature_of, is_fir
 use Rattle.hp_analysis.specs.Findings as F
 use Rattle.hp_analysis.specs.Findings.{Finding, Wanted, Reason, Reasoned, Judged, found, finds_nothing, refused, placed, reasoned, suits, demanded, operand_sort, operands_sort, alike_check, ordered_check, comparable_check, comparison_sort, expression_check, kind_check, assignment_check, assignments_findings, update_findings, all_set, create_findings, none_missing, next_demand, later_demands, argument_check, arguments_findings, emission_check, query_known, single_check, own_findings, inner_findings, statement_findings, body_findings, value_sort, count_check, sum_check, is_ordered, extreme_check, aggregate_check, value_check, first_scope, test_check, entry_check, scope_then, entries_findings, rule_findings, rules_findings, library_findings, unit_findings, rules_member, row_field_sort, row_key_sort, count_sort, read_new, read_old, read_key, read_argument, read_time}
 use Rattle.hp_analysis.specs.Parts.{Part, expression_part, statement_part, field_part, pairs_part, query_part, along, part_in_expression, part_in_aggregate, part_in_pair, part_in_pairs, part_in_arguments, statement_at, part_in_statement, part_in_body, part_in_entry, part_in_condition, part_in_rule, part_in_rules, part_in_library, part_in_unit, is_wanted, IsRefused, ArePlaced}
+use Rattle.hp_analysis.proofs.Bodies.{body_from, from_start, statement_is, later_is}
 use Rattle.hp_analysis.proofs.Judging.{value_in, chosen, sort_given, statement_judged}
 
 -- ---- results that have a part
@@ -391,26 +392,6 @@ module _ (library : Library) (d : Declared) where
   own_stand scope queries path (on_rule op n) = tt
   own_stand scope queries path (fire n) = one_stand scope queries path (fire n) (fire_located scope queries path n)
 
-  -- the statements from an index on
-  abbrev body_from : ℕ → Body → Body
-  body_from i empty = empty
-  body_from zero (s then rest) = s then rest
-  body_from (suc i) (s then rest) = body_from i rest
-
-  from_start : (b : Body) → body_from 0 b ≡ b
-  from_start empty = refl
-  from_start (s then rest) = refl
-
-  statement_is : (i : ℕ) (whole : Body) (s : Statement) (rest : Body) → body_from i whole ≡ (s then rest) → statement_at i whole ≡ Some s
-  statement_is i empty s rest is = cc
-  statement_is zero (t then more) s rest is = ap (statement_at 0) is
-  statement_is (suc i) (t then more) s rest is = statement_is i more s rest is
-
-  later_is : (i : ℕ) (whole : Body) (s : Statement) (rest : Body) → body_from i whole ≡ (s then rest) → body_from (suc i) whole ≡ rest
-  later_is i empty s rest is = cc
-  later_is zero (t then more) s rest is = ap (body_from 1) is ∙ from_start rest
-  later_is (suc i) (t then more) s rest is = later_is i more s rest is
-
   mutual
     inner_stand : (scope : Scope) (queries : List (Name × ℕ)) (path : Path) (s : Statement) → AllStand (At scope queries s) path (inner_findings library d scope queries path s)
     inner_stand scope queries path (when e a b) =
@@ -532,4 +513,4 @@ module _ (library : Library) (d : Declared) where
   unit_placed (moment t) = tt
   unit_placed (transaction now body) =
       all_placed (λ steps. part_in_body library d no_scope [] steps body) (λ path. part_in_unit library d path (transaction now body)) [] (λ steps. refl) (body_findings library d no_scope [] [] 0 body)
-      (body_stand library d no_scope [] [] body 0 body (from_start library d body))
+      (body_stand library d no_scope [] [] body 0 body (from_start body))

@@ -14,6 +14,7 @@ use Rattle.hp_analysis.specs.Findings.{Wanted, of_kind, of_known_kind, of_ordere
 use Rattle.hp_analysis.specs.KindFindings.{KindFinding, kind_findings}
 use Rattle.hp_analysis.specs.Guards.{Opening, by_condition, by_action, opening}
 use Rattle.hp_analysis.specs.Installed.{installed, with_installed}
+use Rattle.hp_analysis.specs.Links.{Link, rule_link}
 use Rattle.hp_analysis.specs.Reached.{has, reached}
 use Rattle.hp_analysis.specs.Witness.{library_chain, script_chain}
 
@@ -82,13 +83,24 @@ rule_words n rule = path_text (to_member (codes "rules") ∷ to_item n ∷ []) �
 abbrev pub link_line : List Rule → ℕ → Bytes
 link_line rules n = line 0 (codes "chain" ∷ rule_words n (slice_index_or rules n no_rule))
 
-abbrev pub chain_lines : List Rule → List ℕ → Bytes
-chain_lines rules ns = flat_map (link_line rules) ns
+-- what links it to the next one
+abbrev pub by_line : Option Link → Bytes
+by_line None = []
+by_line (Some l) = line 0 (codes "by" ∷ path_text l.by ∷ path_text l.event ∷ [])
+
+abbrev pub next_line : Library → ℕ → List ℕ → Bytes
+next_line library n [] = []
+next_line library n (m ∷ ms) = by_line (rule_link library n m)
+
+-- the rules of a chain, each with what links it to the next one in a library
+abbrev pub chain_lines : List Rule → Library → List ℕ → Bytes
+chain_lines rules library [] = []
+chain_lines rules library (n ∷ ns) = link_line rules n ++ (next_line library n ns ++ chain_lines rules library ns)
 
 -- a chain that the script's units begin, among the rules that it may install, if there may be one; else one of any rules
-abbrev pub chain_by : Script → (own : Option ℕ) → List ℕ
-chain_by script None = let known = with_installed script in script_chain known.library known.units
-chain_by script (Some k) = library_chain script.library
+abbrev pub chain_text : Script → (own : Option ℕ) → Bytes
+chain_text script None = let known = with_installed script in chain_lines script.library.rules known.library (script_chain known.library known.units)
+chain_text script (Some k) = chain_lines script.library.rules script.library (library_chain script.library)
 
 -- ---- guards
 
@@ -133,7 +145,7 @@ abbrev pub lines_text : Script → List KindFinding → Bytes
 lines_text script all =
     let rules = script.library.rules in
     kind_lines all
-    ++ (chain_lines rules (chain_by script (script_depth (with_installed script)))
+    ++ (chain_text script (script_depth (with_installed script))
     ++ (opening_lines 0 rules
     ++ idle_lines (installed script.library script.units) (reached (with_installed script).library script.units) 0 rules))
 

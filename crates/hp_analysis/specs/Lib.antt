@@ -20,3 +20,5 @@ pub mod Parts
 pub mod Places
 pub mod Readings
 pub mod Scopes
+pub mod Links
+pub mod Signalled

@@ -23,7 +23,7 @@ pub(crate) fn completes(expr: &EventExpr, prim: &Prim) -> bool
 }
 
 /// Whether a task of this mode is a transaction of its own.
-fn is_detached(place: Coupling) -> bool
+pub(crate) fn is_detached(place: Coupling) -> bool
     ensures { result ≡ rules.is_detached (coupling place) }
 {
     match place {

@@ -6,6 +6,7 @@ ghost use Rattle.hp_analysis.specs.Sets.{targets};
 ghost use Rattle.hp_analysis.specs.Graphs.{seen};
 
 use crate::installs::installed;
+use crate::links::Link;
 use crate::sets::{is_within, spread, within_each};
 use crate::triggers::Triggers;
 use hp_rule::{Library, Unit};
@@ -28,6 +29,8 @@ impl<'a> Graph<'a> {
     ghost use Rattle.hp_analysis.specs.Sets.{is_within, begun};
     ghost use Rattle.hp_analysis.specs.Tables.{within, IsLeast, script};
     ghost use Rattle.hp_analysis.specs.Reached.{reached};
+    ghost use Rattle.hp_analysis.specs.Links.{rule_link};
+    ghost use Rattle.hp_analysis.specs.Signalled.{links};
     ghost use Rattle.hp_rule.specs.Libraries as libraries;
     ghost use Rattle.hp_analysis.specs.Installed.{installed, with_only};
     ghost use Rattle.hp_analysis.specs.Depths.{library_depth, script_depth};
@@ -143,6 +146,15 @@ impl<'a> Graph<'a> {
             self.triggers.mark_unit(unit, &mut set);
         }
         Ok(set)
+    }
+
+    /// Why a firing of one rule may trigger another one, by the rules' numbers; nothing if it can't.
+    ///
+    /// What it names stands there (`laws::links_stand`). An error means that memory ran out.
+    pub fn link(&self, alloc: Global, from: usize, to: usize) -> Result<Option<Link>, AllocError>
+        ensures { IfOk result (λ l. links l ≡ rule_link (seen self.now.triggers) from to) }
+    {
+        self.triggers.link(alloc, from, to)
     }
 
     /// The rules that firings can reach from what these units trigger, by the rules' numbers.

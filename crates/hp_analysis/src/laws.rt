@@ -3,6 +3,7 @@
 ghost use Rattle.hp_analysis.specs.Reached.{ReachedIsLeast, UnreachedNeverFire};
 ghost use Rattle.hp_analysis.specs.Installed.{InstalledSuffice, OthersDoNothing, KnownDepthHolds};
 ghost use Rattle.hp_analysis.specs.Guards.{GuardsHold};
+ghost use Rattle.hp_analysis.specs.Links.{LinksStand};
 ghost use Rattle.hp_analysis.specs.Witness.{ChainIsPath, ChainIsPathAmong};
 
 /// The rules that are reached are the least set that has what the units trigger, and what each of its rules may
@@ -23,6 +24,13 @@ pub fn chain_is_path()
 
     // Also where the rules outside a set do nothing.
     ensures among { ChainIsPathAmong }
+{}
+
+/// Wherever a firing of a rule may trigger another one there is a link. At its first path stands a statement of the
+/// rule's action, or the mode by which a transaction of its own commits. At the second one stands a pattern of the other
+/// rule's event that what is signalled may end, or that rule if the statement fires it.
+pub fn links_stand()
+    ensures { LinksStand }
 {}
 
 /// A script installs no rules but those that are found as installed. So it does the same if the others do nothing.

@@ -63,7 +63,7 @@ fn add_event(
 /// The number after those of the library's classes, which is no class.
 ///
 /// An error means that there is no such class number.
-fn no_class(library: &Library) -> Result<ClassNo, AllocError>
+pub(crate) fn no_class(library: &Library) -> Result<ClassNo, AllocError>
     ensures { IfOk result (λ class. class ≡ length (libraries.library library.now).classes) }
 {
     ClassNo::try_from(library.classes().len()).map_err(|_| AllocError)

@@ -8,9 +8,11 @@ ghost use Rattle.hp_analysis.specs.Listeners.{ending};
 ghost use Rattle.hp_analysis.specs.Installed.{with_only};
 
 use crate::forms::{completes, is_plain, may_detach};
-use crate::listeners::{listeners_of, listening};
+use crate::links::{Link, Target, body_link, commit_link};
+use crate::listeners::{listeners_of, listening, no_class};
 use crate::sets::{filled, has, mark, mark_all};
-use hp_rule::{Library, Rule, RuleLists, Stmt, Subject, Unit};
+use hp_event::Pattern;
+use hp_rule::{EventExpr, Library, Member, Place, Rule, RuleLists, Stmt, Subject, Unit};
 use hp_value::Prim;
 use std::alloc::{AllocError, Global};
 
@@ -27,7 +29,7 @@ pub(crate) struct Triggers<'a> {
 }
 
 impl<'a> Triggers<'a> {
-    ghost use Rattle.std.specs.Prelude.{IfOk, Bool, map, length, true};
+    ghost use Rattle.std.specs.Prelude.{IfOk, Bool, map, length, slice_get, true};
     ghost use Rattle.std.specs.Global.{Vec};
     ghost use Rattle.hp_model.specs.Occurrences.{commit_reached, moment_reached};
     ghost use Rattle.hp_model.specs.Chains.{completes, statement_triggers, body_triggers, rule_triggers, unit_triggers, signal_triggers};
@@ -36,7 +38,10 @@ impl<'a> Triggers<'a> {
     ghost use Rattle.hp_analysis.specs.Sets.{marked, targets, begun_by};
     ghost use Rattle.hp_analysis.specs.Listeners.{is_plain};
     ghost use Rattle.hp_analysis.specs.Installed.{rule_in};
+    ghost use Rattle.hp_detect.specs.Mapped.{event};
     ghost use Rattle.hp_analysis.specs.Graphs.{seen};
+    ghost use Rattle.hp_analysis.specs.Links.{rule_link, link_between, link_onward};
+    ghost use Rattle.hp_analysis.specs.Signalled.{links};
 
     /// The triggers of a library in which the rules outside the set do nothing.
     ///
@@ -207,5 +212,98 @@ impl<'a> Triggers<'a> {
             sets.push(set)?;
         }
         Ok(sets)
+    }
+
+    /// The link from a rule of this number to what is to be triggered.
+    fn link_from(
+        &self,
+        number: usize,
+        acting: &Rule,
+        target: Target<'_>,
+    ) -> Result<Option<Link>, AllocError>
+        ensures { IfOk result (λ l. links l ≡ link_between number (rule_in self.now.present.items
+            (length (seen self.now).classes) number (rule acting.now)) target.entry.number
+            (event target.entry.event.now)) }
+    {
+        if has(&self.present, number) {
+            let rules = Place::Member(Member::Rules);
+            let place = rules.item(number);
+            if let Some(link) = body_link(&acting.action, &place.item(5), target)? {
+                return Ok(Some(link));
+            }
+        }
+        commit_link(number, acting, target)
+    }
+
+    /// The link from one rule to another.
+    fn link_to(
+        &self,
+        alloc: Global,
+        from: usize,
+        acting: &Rule,
+        to: usize,
+        next: &Rule,
+    ) -> Result<Option<Link>, AllocError>
+        ensures { IfOk result (λ l. links l ≡ link_between from (rule_in self.now.present.items
+            (length (seen self.now).classes) from (rule acting.now)) to
+            (rule_in self.now.present.items (length (seen self.now).classes) to (rule next.now)).event) }
+    {
+        if has(&self.present, to) {
+            let event = &next.event;
+            let number = to;
+            return self.link_from(
+                from,
+                acting,
+                Target {
+                    alloc,
+                    number,
+                    event,
+                },
+            );
+        }
+        let none = EventExpr::One(Pattern::Create(no_class(self.library)?));
+        let event = &none;
+        let number = to;
+        self.link_from(
+            from,
+            acting,
+            Target {
+                alloc,
+                number,
+                event,
+            },
+        )
+    }
+
+    /// The link from one rule to that of a number.
+    fn link_to_number(
+        &self,
+        alloc: Global,
+        from: usize,
+        acting: &Rule,
+        to: usize,
+    ) -> Result<Option<Link>, AllocError>
+        ensures { IfOk result (λ l. links l ≡ link_onward from (rule_in self.now.present.items
+            (length (seen self.now).classes) from (rule acting.now)) to (slice_get (seen self.now).rules to)) }
+    {
+        match self.library.rules().get(to) {
+            Some(next) => self.link_to(alloc, from, acting, to, next),
+            None => Ok(None),
+        }
+    }
+
+    /// Why a firing of one rule may trigger another one; nothing if it can't.
+    pub(crate) fn link(
+        &self,
+        alloc: Global,
+        from: usize,
+        to: usize,
+    ) -> Result<Option<Link>, AllocError>
+        ensures { IfOk result (λ l. links l ≡ rule_link (seen self.now) from to) }
+    {
+        match self.library.rules().get(from) {
+            Some(acting) => self.link_to_number(alloc, from, acting, to),
+            None => Ok(None),
+        }
     }
 }

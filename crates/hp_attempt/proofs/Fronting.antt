@@ -1,5 +1,6 @@
 -- The front of a row of attempts.
-use Rattle.std.proofs.Common.{◌≡◌, refl, sym, ap, ◌∙◌, subst, ℕ, zero, suc, ◌+◌, Bool, true, false, List, [], ◌∷◌, ◌++◌, length, take, drop, map, Option, Some, None, append_assoc, append-nil, length-append, get_or, unwrap_or, ◌<◌, ◌↔◌, IfSome, IfNone, not, true≢false, arith}
+use Rattle.std.proofs.Common.{◌≡◌, refl, sym, ap, ◌∙◌, subst, ℕ, zero, suc, ◌+◌, Bool, true, false, List, [], ◌∷◌, ◌++◌, length, take, drop, map, Option, Some, None, append_assoc}
+use Rattle.std.proofs.Common.{append-nil, length-append, get_or, unwrap_or, ◌<◌, ◌↔◌, IfSome, IfNone, not, true≢false, arith}
 use Rattle.std.specs.Prelude.{Result, Ok, Err, OnErr}
 use Rattle.std.proofs.lemmas.List.{map-append}
 use Rattle.hp_model.specs.Values.{Veto}
@@ -22,7 +23,8 @@ use Rattle.hp_attempt.specs.Mapped.{veto_in, firing, attempt}
 use Rattle.hp_model.specs.States.{States, ordered_states, IsSoundFor, FaithfulFiringFor, FaithfulSiblingsFor}
 use Rattle.hp_model.proofs.ForStates.{sound_as, faithful_of}
 use Rattle.hp_attempt.proofs.Siblings.{Completes, completes_more, completes_end, completes_vetoed}
-use Rattle.hp_attempt.specs.Fronts.{AreSound, AreSoundFor, last_end, stopped_by, Stays, StopsAt, IsLongest, FrontIs, FrontIsFor, StandsFor, TakesAttempt, TakesSome, AreOutcomes, TakesFirst, LeavesFirst}
+use Rattle.hp_attempt.specs.Fronts.{AreSound, AreSoundFor, last_end, stopped_by, Stays, StopsAt, IsLongest, FrontIs, FrontIsFor, StandsFor, TakesAttempt, TakesSome, AreOutcomes}
+use Rattle.hp_attempt.specs.Fronts.{TakesFirst, LeavesFirst}
 
 -- ---- the next of a list
 
@@ -74,7 +76,8 @@ grown : {old new : Seeing} → GoesOn old new → Grows old.reads new.reads
 grown on = record { others = on.reads.0; are = on.reads.1 }
 
 pub none_yet : (stops : Bool) (tasks : List Task) (attempts : List (Option Attempt)) (outcomes : List Outcome) (v : Seeing) → outcomes ≡ [] → SoFar stops tasks attempts outcomes v v
-none_yet stops tasks attempts outcomes v is = subst (λ os. SoFar stops tasks attempts os v v) (sym is) (record { goes = none stops; by = λ states library sound rest. record { by = λ more after g grows q. q } })
+none_yet stops tasks attempts outcomes v is =
+    subst (λ os. SoFar stops tasks attempts os v v) (sym is) (record { goes = none stops; by = λ states library sound rest. record { by = λ more after g grows q. q } })
   where
     none : (stops : Bool) → stopped_by stops [] ≡ None
     none true = refl
@@ -114,7 +117,8 @@ takes_more attempts outcomes o t left first {old} {new} so_far takes =
     let e : suc (length outcomes) ≡ length outcomes + 1 = omega arith in
     subst (λ n. TakesSome n attempts first new) (e ∙ sym (length-append outcomes (o ∷ []))) (takes.taken, left, old, takes.first, so_far, takes.takes)
 
-outcomes_more : (outcomes : List Outcome) (attempts : List (Option Attempt)) (o : Outcome) (a : Attempt) (rest : List (Option Attempt)) → AreOutcomes outcomes attempts → drop (length outcomes) attempts ≡ Some a ∷ rest → a.outcome ≡ o
+outcomes_more : (outcomes : List Outcome) (attempts : List (Option Attempt)) (o : Outcome) (a : Attempt) (rest : List (Option Attempt)) → AreOutcomes outcomes attempts
+    → drop (length outcomes) attempts ≡ Some a ∷ rest → a.outcome ≡ o
     → AreOutcomes (outcomes ++ o ∷ []) attempts
 outcomes_more [] [] o a rest are at is = cc
 outcomes_more [] (None ∷ attempts) o a rest are at is = cc
@@ -130,13 +134,16 @@ on_err (Err e) p = p
 
 -- the attempt was accepted, whose outcome found no room
 pub takes_unpushed : (attempts : List (Option Attempt)) (outcomes : List Outcome) (given : Option Outcome) (o : Outcome) (t : Task) (old_left left : List (Option Attempt)) (first old new : Seeing)
-    → TakesSome (length outcomes) attempts first old → old_left ≡ drop (length outcomes) attempts → IfSome given (λ o. TakesFirst t old new old_left left o) → given ≡ Some o → TakesSome (length (outcomes ++ o ∷ [])) attempts first new
+    → TakesSome (length outcomes) attempts first old → old_left ≡ drop (length outcomes) attempts → IfSome given (λ o. TakesFirst t old new old_left left o)
+    → given ≡ Some o → TakesSome (length (outcomes ++ o ∷ [])) attempts first new
 takes_unpushed attempts outcomes given o t old_left left first old new so_far was taken is =
     takes_more attempts outcomes o t left first so_far (subst (λ l. TakesFirst t old new l left o) was (subst (λ p. IfSome p (λ o. TakesFirst t old new old_left left o)) is taken))
 
 -- one task and its attempt more
-module _ (stops : Bool) (tasks : List Task) (attempts : List (Option Attempt)) (outcomes : List Outcome) (o : Outcome) (t : Task) (ts : List Task) (left : List (Option Attempt)) {first old new : Seeing}
-    (so_far : SoFar stops tasks attempts outcomes first old) (next : drop (length outcomes) tasks ≡ t ∷ ts) (takes : TakesFirst t old new (drop (length outcomes) attempts) left o) (on : GoesOn old new) where
+module _ (stops : Bool) (tasks : List Task) (attempts : List (Option Attempt)) (outcomes : List Outcome) (o : Outcome) (t : Task) (ts : List Task)
+    (left : List (Option Attempt)) {first old new : Seeing}
+    (so_far : SoFar stops tasks attempts outcomes first old) (next : drop (length outcomes) tasks ≡ t ∷ ts) (takes : TakesFirst t old new (drop (length outcomes) attempts) left o)
+    (on : GoesOn old new) where
   now_long : length (outcomes ++ o ∷ []) ≡ length outcomes + 1
   now_long = length-append outcomes (o ∷ [])
 
@@ -156,7 +163,8 @@ module _ (stops : Bool) (tasks : List Task) (attempts : List (Option Attempt)) (
       → AreSoundFor states library (take (length outcomes) attempts) × IsSoundFor states library (attempt takes.taken)
   sound_parts states library sound = sound-push states library (take (length outcomes) attempts) takes.taken (subst (AreSoundFor states library) attempts_more sound)
 
-  fires : (states : States) (library : Library) → IsSoundFor states library (attempt takes.taken) → FaithfulFiringFor states library (λ S. fire_task library S t) new.reads (written old) (written new) (firing o)
+  fires : (states : States) (library : Library) → IsSoundFor states library (attempt takes.taken)
+      → FaithfulFiringFor states library (λ S. fire_task library S t) new.reads (written old) (written new) (firing o)
   fires states library sound =
       subst (λ (x : Outcome). FaithfulFiringFor states library (λ S. fire_task library S t) new.reads (written old) (written new) (firing x)) takes.gives (takes.stands.faithful states library sound)
 
@@ -165,25 +173,32 @@ module _ (stops : Bool) (tasks : List Task) (attempts : List (Option Attempt)) (
     goes = going stops None outcomes o goes;
     by = λ states library sound rest.
         let parts = sound_parts states library sound in
-        let whole : take (length outcomes) tasks ++ t ∷ rest ≡ take (length (outcomes ++ o ∷ [])) tasks ++ rest = sym (append_assoc (take (length outcomes) tasks) (t ∷ []) rest) ∙ sym (ap (λ l. l ++ rest) tasks_more) in
+        let whole : take (length outcomes) tasks ++ t ∷ rest ≡ take (length (outcomes ++ o ∷ [])) tasks ++ rest = sym (append_assoc (take (length outcomes) tasks) (t ∷ []) rest)
+        ∙ sym (ap (λ l. l ++ rest) tasks_more) in
         subst (λ l. Completes states library (fire_task library) stops l (written first) rest new.reads (written new) (map firing (outcomes ++ o ∷ []))) whole
         (subst (λ fs. Completes states library (fire_task library) stops (take (length outcomes) tasks ++ t ∷ rest) (written first) rest new.reads (written new) fs) (sym firings_more)
-        (completes_more states library (fire_task library) stops (take (length outcomes) tasks ++ t ∷ rest) (written first) goes (grown on) (so_far.by states library parts.0 (t ∷ rest)) (fires states library parts.1)));
+        (completes_more states library (fire_task library) stops (take (length outcomes) tasks ++ t ∷ rest) (written first) goes (grown on)
+        (so_far.by states library parts.0 (t ∷ rest)) (fires states library parts.1)));
   }
 
 -- the front ends
-pub front_end : {stops : Bool} {tasks : List Task} {attempts : List (Option Attempt)} {outcomes : List Outcome} {old new : Seeing} → SoFar stops tasks attempts outcomes old new → FrontIsFor stops tasks attempts outcomes old new
+pub front_end : {stops : Bool} {tasks : List Task} {attempts : List (Option Attempt)} {outcomes : List Outcome} {old new : Seeing} → SoFar stops tasks attempts outcomes old new
+    → FrontIsFor stops tasks attempts outcomes old new
 front_end {stops} {tasks} {attempts} {outcomes} {old} {new} so_far = record {
   faithful = λ states library sound.
       let n = length outcomes in
-      subst (λ l. FaithfulSiblingsFor states library (siblings (fire_task library) stops l) new.reads (written old) (written new) (record { firings = map firing outcomes; vetoed_by = stopped_by stops outcomes })) (append-nil (take n tasks))
-      (subst (λ v. FaithfulSiblingsFor states library (siblings (fire_task library) stops (take n tasks ++ [])) new.reads (written old) (written new) (record { firings = map firing outcomes; vetoed_by = v })) (sym so_far.goes)
+      subst (λ l. FaithfulSiblingsFor states library (siblings (fire_task library) stops l) new.reads (written old) (written new)
+      (record { firings = map firing outcomes; vetoed_by = stopped_by stops outcomes })) (append-nil (take n tasks))
+      (subst (λ v. FaithfulSiblingsFor states library (siblings (fire_task library) stops (take n tasks ++ [])) new.reads (written old) (written new)
+      (record { firings = map firing outcomes; vetoed_by = v })) (sym so_far.goes)
       (completes_end states library (fire_task library) stops (take n tasks ++ []) (written old) (so_far.by states library sound [])));
 }
 
 -- what is so for each class of states is so for ordered ones
-pub front_ordered : {stops : Bool} {tasks : List Task} {attempts : List (Option Attempt)} {outcomes : List Outcome} {old new : Seeing} → FrontIsFor stops tasks attempts outcomes old new → FrontIs stops tasks attempts outcomes old new
-front_ordered {attempts = attempts} {outcomes} front = record { faithful = λ library sound. faithful_of (front.faithful ordered_states library (all_sound_as library (take (length outcomes) attempts) sound)) }
+pub front_ordered : {stops : Bool} {tasks : List Task} {attempts : List (Option Attempt)} {outcomes : List Outcome} {old new : Seeing}
+    → FrontIsFor stops tasks attempts outcomes old new → FrontIs stops tasks attempts outcomes old new
+front_ordered {attempts = attempts} {outcomes} front =
+    record { faithful = λ library sound. faithful_of (front.faithful ordered_states library (all_sound_as library (take (length outcomes) attempts) sound)) }
 
 -- ---- the first attempt
 
@@ -235,12 +250,15 @@ module _ (tasks : List Task) (attempts : List (Option Attempt)) (outcomes : List
     faithful = λ states library sound.
         let parts = sound_parts true tasks attempts outcomes o t ts left so_far next takes on states library sound in
         let fires_now = fires true tasks attempts outcomes o t ts left so_far next takes on states library parts.1 in
-        let fired = completes_vetoed states library (fire_task library) (take (length outcomes) tasks ++ t ∷ []) (written first) r vetoes (grown on) (so_far.by states library parts.0 (t ∷ [])) fires_now in
+        let fired = completes_vetoed states library (fire_task library) (take (length outcomes) tasks ++ t ∷ []) (written first) r vetoes (grown on)
+        (so_far.by states library parts.0 (t ∷ [])) fires_now in
         let tasks_are = tasks_more true tasks attempts outcomes o t ts left so_far next takes on in
         let firings_are = firings_more true tasks attempts outcomes o t ts left so_far next takes on in
         let veto_is : stopped_by true (outcomes ++ o ∷ []) ≡ Some r = last-push None outcomes o ∙ vetoes in
-        subst (λ l. FaithfulSiblingsFor states library (siblings (fire_task library) true l) new.reads (written first) (written new) (record { firings = map firing (outcomes ++ o ∷ []); vetoed_by = stopped_by true (outcomes ++ o ∷ []) })) (sym tasks_are)
-        (subst (λ (a : SiblingsAnswer). FaithfulSiblingsFor states library (siblings (fire_task library) true (take (length outcomes) tasks ++ t ∷ [])) new.reads (written first) (written new) a) (λ i. record { firings = sym firings_are i; vetoed_by = sym veto_is i }) fired);
+        subst (λ l. FaithfulSiblingsFor states library (siblings (fire_task library) true l) new.reads (written first) (written new)
+        (record { firings = map firing (outcomes ++ o ∷ []); vetoed_by = stopped_by true (outcomes ++ o ∷ []) })) (sym tasks_are)
+        (subst (λ (a : SiblingsAnswer). FaithfulSiblingsFor states library (siblings (fire_task library) true (take (length outcomes) tasks ++ t ∷ []))
+        new.reads (written first) (written new) a) (λ i. record { firings = sym firings_are i; vetoed_by = sym veto_is i }) fired);
   }
 
   pub front_vetoed : (stops : Bool) → goes_on stops (veto_in o) ≡ false → SoFar stops tasks attempts outcomes first old → FrontIsFor stops tasks attempts (outcomes ++ o ∷ []) first new
@@ -251,7 +269,8 @@ module _ (tasks : List Task) (attempts : List (Option Attempt)) (outcomes : List
       by true (Some r) is halts so_far = vetoed_at r is so_far
       by false v is halts so_far = cc
 
-pub longest_vetoed : (stops : Bool) (outcomes : List Outcome) (o : Outcome) (now : Cells) (tasks : List Task) (left : List (Option Attempt)) → goes_on stops (veto_in o) ≡ false → IsLongest (stopped_by stops (outcomes ++ o ∷ [])) now tasks left
+pub longest_vetoed : (stops : Bool) (outcomes : List Outcome) (o : Outcome) (now : Cells) (tasks : List Task) (left : List (Option Attempt))
+    → goes_on stops (veto_in o) ≡ false → IsLongest (stopped_by stops (outcomes ++ o ∷ [])) now tasks left
 longest_vetoed stops outcomes o now tasks left halts = by stops (veto_in o) refl halts
   where
     by : (stops : Bool) (v : Option Veto) → veto_in o ≡ v → goes_on stops v ≡ false → IsLongest (stopped_by stops (outcomes ++ o ∷ [])) now tasks left
@@ -279,11 +298,14 @@ pub record Stepped (stops : Bool) (tasks : List Task) (attempts : List (Option A
   pub taken : TakesSome (length outcomes) attempts first new
   pub are : AreOutcomes outcomes attempts
 
-pub step : (stops : Bool) (tasks : List Task) (attempts : List (Option Attempt)) (before after : List Outcome) (given : Option Outcome) (o : Outcome) (t : Task) (ts : List Task) (old_left left : List (Option Attempt)) {first old new : Seeing}
-    → SoFar stops tasks attempts before first old → TakesSome (length before) attempts first old → AreOutcomes before attempts → drop (length before) tasks ≡ t ∷ ts → old_left ≡ drop (length before) attempts
+pub step : (stops : Bool) (tasks : List Task) (attempts : List (Option Attempt)) (before after : List Outcome) (given : Option Outcome) (o : Outcome)
+    (t : Task) (ts : List Task) (old_left left : List (Option Attempt)) {first old new : Seeing}
+    → SoFar stops tasks attempts before first old → TakesSome (length before) attempts first old → AreOutcomes before attempts → drop (length before) tasks ≡ t ∷ ts
+    → old_left ≡ drop (length before) attempts
     → IfSome given (λ o. TakesFirst t old new old_left left o) → given ≡ Some o → GoesOn old new → after ≡ before ++ o ∷ [] → Stepped stops tasks attempts after o left first new
 step stops tasks attempts before after given o t ts old_left left {first} {old} {new} so_far taken_before are_before next was taken is on all =
-    let takes : TakesFirst t old new (drop (length before) attempts) left o = subst (λ l. TakesFirst t old new l left o) was (subst (λ p. IfSome p (λ o. TakesFirst t old new old_left left o)) is taken) in
+    let takes : TakesFirst t old new (drop (length before) attempts) left o =
+    subst (λ l. TakesFirst t old new l left o) was (subst (λ p. IfSome p (λ o. TakesFirst t old new old_left left o)) is taken) in
     subst (λ os. Stepped stops tasks attempts os o left first new) (sym all)
     (record {
       left = sym (left_more stops tasks attempts before o t ts left so_far next takes on);
@@ -310,8 +332,10 @@ pub record Ended (stops : Bool) (tasks : List Task) (attempts : List (Option Att
   pub longest : IsLongest (stopped_by stops outcomes) (now_in new) (drop (length outcomes) tasks) rest
   pub taken : TakesSome (length outcomes) attempts first new
 
-pub ended : (stops : Bool) (tasks : List Task) (attempts : List (Option Attempt)) (outcomes : List Outcome) (given : Option Outcome) (t : Task) (ts : List Task) (old_left left : List (Option Attempt)) {first old new : Seeing}
-    → SoFar stops tasks attempts outcomes first old → TakesSome (length outcomes) attempts first old → drop (length outcomes) tasks ≡ t ∷ ts → IfNone given (LeavesFirst t old new old_left left) → given ≡ None → Ended stops tasks attempts outcomes left first new
+pub ended : (stops : Bool) (tasks : List Task) (attempts : List (Option Attempt)) (outcomes : List Outcome) (given : Option Outcome) (t : Task) (ts : List Task)
+    (old_left left : List (Option Attempt)) {first old new : Seeing}
+    → SoFar stops tasks attempts outcomes first old → TakesSome (length outcomes) attempts first old → drop (length outcomes) tasks ≡ t ∷ ts
+    → IfNone given (LeavesFirst t old new old_left left) → given ≡ None → Ended stops tasks attempts outcomes left first new
 ended stops tasks attempts outcomes given t ts old_left left {first} {old} {new} so_far taken next stays none =
     let leaves = subst (λ p. IfNone p (LeavesFirst t old new old_left left)) none stays in
     record {

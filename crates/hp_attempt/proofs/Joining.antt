@@ -57,7 +57,8 @@ siblings_then library fire stops xs ys {reads} {more} {w0} {w1} {w2} {g} {h} on 
       let xs_done = siblings fire stops xs S in
       let rest = q.from base held xs_done.state first.ordered first.reaches in
       let went_on : xs_done.vetoed_by ≡ None = ap (λ (x : SiblingsAnswer). x.vetoed_by) first.answers ∙ on in
-      let all : siblings fire stops (xs ++ ys) S ≡ and_then None xs_done (siblings fire stops ys) = siblings-append fire stops xs ys S ∙ ap (λ v. and_then v xs_done (siblings fire stops ys)) went_on in
+      let all : siblings fire stops (xs ++ ys) S ≡ and_then None xs_done (siblings fire stops ys) = siblings-append fire stops xs ys S
+      ∙ ap (λ v. and_then v xs_done (siblings fire stops ys)) went_on in
       subst (λ (s : Siblings). LeadsTo library (siblings_answer s) s.state (record { firings = g.firings ++ h.firings; vetoed_by = h.vetoed_by }) (over base w2)) (sym all)
       (record {
         answers = λ i. record {
@@ -84,7 +85,8 @@ siblings_stopped library fire stops xs ys {reads} {w0} {w1} {g} r stopped p = re
 -- ---- a front in a group
 
 module _ (library : Library) (stops : Bool) (whole left : List Task) (w0 : Changes) (attempts : List (Option Attempt)) (outcomes : List Outcome) {old new : Seeing} {so_far : List FiringAnswer}
-    (c : GroupCompletes library (fire_task library) stops whole w0 left old.reads (written old) so_far) (on : GoesOn old new) (front : FrontIs stops left attempts outcomes old new) (sound : AreSound library (take (length outcomes) attempts)) where
+    (c : GroupCompletes library (fire_task library) stops whole w0 left old.reads (written old) so_far) (on : GoesOn old new) (front : FrontIs stops left attempts outcomes old new)
+    (sound : AreSound library (take (length outcomes) attempts)) where
   parts : take (length outcomes) left ++ drop (length outcomes) left ≡ left
   parts = take-append-drop (length outcomes) left
 
@@ -92,10 +94,12 @@ module _ (library : Library) (stops : Bool) (whole left : List Task) (w0 : Chang
   grows = record { others = on.reads.0; are = on.reads.1 }
 
   -- after a front that wasn't stopped, the group goes on with the tasks that are left
-  pub front_completes : stopped_by stops outcomes ≡ None → GroupCompletes library (fire_task library) stops whole w0 (drop (length outcomes) left) new.reads (written new) (so_far ++ map firing outcomes)
+  pub front_completes : stopped_by stops outcomes ≡ None → GroupCompletes library (fire_task library) stops whole w0 (drop (length outcomes) left) new.reads
+      (written new) (so_far ++ map firing outcomes)
   front_completes goes = record {
     by = λ more after g grows' q.
-        subst (λ fs. FaithfulSiblings library (siblings (fire_task library) stops whole) more w0 after (record { firings = fs; vetoed_by = g.vetoed_by })) (sym (append_assoc so_far (map firing outcomes) g.firings))
+        subst (λ fs. FaithfulSiblings library (siblings (fire_task library) stops whole) more w0 after (record { firings = fs; vetoed_by = g.vetoed_by }))
+        (sym (append_assoc so_far (map firing outcomes) g.firings))
         (c.by more after (record { firings = map firing outcomes ++ g.firings; vetoed_by = g.vetoed_by }) (Grows-then grows grows')
         (subst (λ ts. FaithfulSiblings library (siblings (fire_task library) stops ts) more (written old) after (record { firings = map firing outcomes ++ g.firings; vetoed_by = g.vetoed_by })) parts
         (siblings_then library (fire_task library) stops (take (length outcomes) left) (drop (length outcomes) left) goes grows' (front.faithful library sound) q)));
@@ -107,5 +111,6 @@ module _ (library : Library) (stops : Bool) (whole left : List Task) (w0 : Chang
   front_stops r stopped =
       c.by new.reads (written new) (record { firings = map firing outcomes; vetoed_by = Some r }) grows
       (subst (λ v. FaithfulSiblings library (siblings (fire_task library) stops left) new.reads (written old) (written new) (record { firings = map firing outcomes; vetoed_by = v })) stopped
-      (subst (λ ts. FaithfulSiblings library (siblings (fire_task library) stops ts) new.reads (written old) (written new) (record { firings = map firing outcomes; vetoed_by = stopped_by stops outcomes })) parts
+      (subst (λ ts. FaithfulSiblings library (siblings (fire_task library) stops ts) new.reads (written old) (written new)
+      (record { firings = map firing outcomes; vetoed_by = stopped_by stops outcomes })) parts
       (siblings_stopped library (fire_task library) stops (take (length outcomes) left) (drop (length outcomes) left) r stopped (front.faithful library sound))))

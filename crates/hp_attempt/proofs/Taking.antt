@@ -1,17 +1,20 @@
 -- Attempts that are accepted.
-use Rattle.std.proofs.Common.{◌≡◌, ◌||◌, true, true≢false, None, Some, refl, sym, ap, ◌∙◌, subst, ℕ, ℤ, Option, List, [], ◌∷◌, ◌++◌, append-nil, length, take, drop, slice_index_or, inl, inr, ⊎_elim, arith}
+use Rattle.std.proofs.Common.{◌||◌, true, true≢false, None, Some}
+use Rattle.std.proofs.Common.{◌≡◌, refl, sym, ap, ◌∙◌, subst, ℕ, ℤ, Option, List, [], ◌∷◌, ◌++◌, append-nil, length, take, drop, slice_index_or, inl, inr, ⊎_elim, arith}
 use Rattle.std.specs.Prelude.{Result, Ok, Err, OnOk, OnErr, option_map}
 use Rattle.hp_model.specs.Rules.{Library}
 use Rattle.hp_model.specs.Tree.{Task}
 use Rattle.hp_model.specs.Values.{KeyedRow, text}
 use Rattle.hp_model.specs.ClassParts.{ClassPart}
-use Rattle.hp_model.specs.Cells.{Cells, cells, Changes, object_cell, belongs_in, over, Read, cell_read, keys_read, greatest_read, count_read, objects_read, part_read, ReadHolds, ReadsHold, Holds, AreKeys, IsGreatestKey, IsCount, AreObjects, ArePart}
+use Rattle.hp_model.specs.Cells.{Cells, cells, Changes, object_cell, belongs_in, over, Read, cell_read, keys_read, greatest_read, count_read, objects_read, part_read, ReadHolds}
+use Rattle.hp_model.specs.Cells.{ReadsHold, Holds, AreKeys, IsGreatestKey, IsCount, AreObjects, ArePart}
 use Rattle.hp_model.specs.Firing.{fire_task}
 use Rattle.hp_model.specs.Soundness.{firing_answer, Attempt}
 use Rattle.hp_model.proofs.BridgesCells.{stacked, over-over, Holds-front}
 use Rattle.hp_store.specs.Changes.{Entries, changes}
 use Rattle.hp_store.specs.Stack.{cells_in}
-use Rattle.hp_view.specs.Seeing.{Seeing, written, now_in, Shows, ShowsKeys, ShowsGreatest, ShowsCount, ShowsObjects, ShowsPart, ReadsKeys, ReadsGreatestAlone, DeletesGreatest, ReadsGreatest, ReadsCountAlone, WritesUnread, ReadsCount, ReadsPart, IsSame, TakesIn, OnlyReads, ReadsMore, GoesOn, Restores, undone}
+use Rattle.hp_view.specs.Seeing.{Seeing, written, now_in, Shows, ShowsKeys, ShowsGreatest, ShowsCount, ShowsObjects, ShowsPart, ReadsKeys, ReadsGreatestAlone, DeletesGreatest}
+use Rattle.hp_view.specs.Seeing.{ReadsGreatest, ReadsCountAlone, WritesUnread, ReadsCount, ReadsPart, IsSame, TakesIn, OnlyReads, ReadsMore, GoesOn, Restores, undone}
 use Rattle.hp_view.specs.Looks.{only_reads_then}
 use Rattle.hp_view.proofs.Views.{GoesOn-then}
 use Rattle.hp_value.specs.declared.cell.Cell.{Cell as RustCell}
@@ -58,7 +61,8 @@ again_count old new n count shows = λ told base held. (shows count told).everyw
 pub again_objects : (old new : Seeing) (n : ℕ) (objects : List KeyedRow) → ((os : List KeyedRow) → AreObjects (now_in old) n os → ShowsObjects new n os) → IsReadAgain old new (objects_read n objects)
 again_objects old new n objects shows = λ told base held. (shows objects told).everywhere base held
 
-pub again_part : (old new : Seeing) (n : ℕ) (p : ClassPart) (objects : List KeyedRow) → ((os : List KeyedRow) → ArePart (now_in old) n p os → ShowsPart new n p os) → IsReadAgain old new (part_read n p objects)
+pub again_part : (old new : Seeing) (n : ℕ) (p : ClassPart) (objects : List KeyedRow) → ((os : List KeyedRow) → ArePart (now_in old) n p os → ShowsPart new n p os)
+    → IsReadAgain old new (part_read n p objects)
 again_part old new n p objects shows = λ told base held. (shows objects told).everywhere base held
 
 -- a part is told in cells that are the same in its class
@@ -70,7 +74,8 @@ part_moved {A} {B} {n} {p} {objects} same told = record {
 }
 
 -- it is shown where all cells of its class are
-pub again_class : (old new : Seeing) (n : ℕ) (p : ClassPart) (objects : List KeyedRow) → ((key : ℤ) → Shows new (object_cell n key) (now_in old (object_cell n key))) → IsReadAgain old new (part_read n p objects)
+pub again_class : (old new : Seeing) (n : ℕ) (p : ClassPart) (objects : List KeyedRow) → ((key : ℤ) → Shows new (object_cell n key) (now_in old (object_cell n key)))
+    → IsReadAgain old new (part_read n p objects)
 again_class old new n p objects shows = λ told base held. part_moved (λ key. (shows key).everywhere base held) told
 
 -- what a call promises where it succeeds
@@ -85,7 +90,8 @@ pub record Recorded (first now : Seeing) (rest all : List Read) : Type 0 where
   pub covers : (base : Cells) → Holds base now.reads → ReadsHold (over base (written now)) rest → ReadsHold (over base (written now)) all
 
 pub record_more : {first old new : Seeing} {left rest all : List Read} (r : Read) → left ≡ r ∷ rest
-    → OnlyReads first old → GoesOn first old → ReadsHold (now_in first) left → ((base : Cells) → Holds base old.reads → ReadsHold (over base (written old)) left → ReadsHold (over base (written old)) all)
+    → OnlyReads first old → GoesOn first old → ReadsHold (now_in first) left → ((base : Cells) → Holds base old.reads → ReadsHold (over base (written old)) left
+    → ReadsHold (over base (written old)) all)
     → OnlyReads old new → GoesOn old new → IsReadAgain old new r → Recorded first new rest all
 record_more {first} {old} {new} {left} {rest} {all} r is only on told covers only' on' again =
     let both : ReadsHold (now_in first) (r ∷ rest) = subst (ReadsHold (now_in first)) is told in
@@ -112,8 +118,10 @@ either_way (Ok x) f g p q = f p
 either_way (Err e) f g p q = g q
 
 -- a read more of the attempt was looked at
-pub adds_next : {first old : Seeing} (new : Seeing) {left rest : List Read} (all : List Read) (r : Read) → left ≡ r ∷ rest → OnlyReads first old → AddsReads (IsForAny (written first) all) first.reads old.reads
-    → ((x : Read) → IsForAny (written first) left x → IsForAny (written first) all x) → AddsReads (IsFor (written old) r) old.reads new.reads → AddsReads (IsForAny (written first) all) first.reads new.reads
+pub adds_next : {first old : Seeing} (new : Seeing) {left rest : List Read} (all : List Read) (r : Read) → left ≡ r ∷ rest → OnlyReads first old
+    → AddsReads (IsForAny (written first) all) first.reads old.reads
+    → ((x : Read) → IsForAny (written first) left x → IsForAny (written first) all x) → AddsReads (IsFor (written old) r) old.reads new.reads
+    → AddsReads (IsForAny (written first) all) first.reads new.reads
 adds_next {first} {old} new all r is only so_far into adds =
     adds_then so_far
     (adds_more (λ x fits. into x (subst (λ rs. IsForAny (written first) rs x) (sym is) (inl fits))) (subst (λ w. AddsReads (IsFor w r) old.reads new.reads) (same_written only) adds))
@@ -138,7 +146,8 @@ adds_greatest P {old} {new} {n} alone instead reads =
     reads.either
 
 -- a number of objects that is read adds its read, or the keys
-pub adds_count : (P : Read → Type 0) {old new : Seeing} {n : ℕ} → ((count : ℕ) → P (count_read n count)) → (WritesUnread old n → (keys : List ℤ) → P (keys_read n keys)) → ReadsCount old new n → AddsReads P old.reads new.reads
+pub adds_count : (P : Read → Type 0) {old new : Seeing} {n : ℕ} → ((count : ℕ) → P (count_read n count)) → (WritesUnread old n → (keys : List ℤ) → P (keys_read n keys))
+    → ReadsCount old new n → AddsReads P old.reads new.reads
 adds_count P {old} {new} {n} alone instead reads =
     ⊎_elim
     (λ (r : ReadsCountAlone old new n). subst (AddsReads P old.reads) (sym (ap (λ (v : Seeing). v.reads) r.count.2)) (adds_noted P old.reads (count_read n r.count.0) (alone r.count.0)))
@@ -198,7 +207,8 @@ stands_settled a t layer {first} {read} {new} for same only covers takes states 
   from = λ base held S one is.
       let at : cells library S ≡ over base (written read) = is ∙ ap (over base) (sym (same_written only)) in
       let here : Holds (cells library S) a.reads = subst (λ c. Holds c a.reads) (sym at) (covers.everywhere base (subst (Holds base) takes.reads held)) in
-      let to : over (cells library S) a.layer ≡ over base (written new) = ap (λ c. over c a.layer) at ∙ over-over base (written read) a.layer ∙ ap (over base) (ap (stacked (written read)) (sym same) ∙ sym takes.changes) in
+      let to : over (cells library S) a.layer ≡ over base (written new) = ap (λ c. over c a.layer) at ∙ over-over base (written read) a.layer
+      ∙ ap (over base) (ap (stacked (written read)) (sym same) ∙ sym takes.changes) in
       subst (λ u. LeadsToOne states library (firing_answer (fire_task library S u)) (fire_task library S u).state a.answer (over base (written new))) for
       (subst (LeadsToOne states library (firing_answer (fire_task library S a.task)) (fire_task library S a.task).state a.answer) to (sound.from S one here));
 }

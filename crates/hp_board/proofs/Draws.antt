@@ -42,7 +42,13 @@ module _ (shape : Shape) (w : ℕ) (views : List Tally) (id : ℕ) (v : Tally) (
         let f : min w shape.numbers ≡ w = omega arith in let f' : min (w + 1) shape.numbers ≡ w + 1 = omega arith in
         let g = once_below-suc x w in let e' = rw f at e in rw f' (omega arith);
     bound = omega arith;
-    each = each_set shape.numbers w (w + 1) views id u (omega arith) d.each (record { idle = λ z. absurd (omega arith); same = (d.each id v at).same; missed = omega arith; past = λ z. absurd (omega arith) });
+    each = each_set shape.numbers w (w + 1) views id u (omega arith) d.each (record {
+      idle = λ z. absurd (omega arith);
+      same = (d.each id v at).same;
+      missed =
+          omega arith;
+      past = λ z. absurd (omega arith);
+    });
   }
 
   draws_none : shape.numbers ≤ w → IsCounted shape (w + 1) (set views id (tally v.numbers v.parts v.drawn (v.missed + 1)))
@@ -66,11 +72,14 @@ module _ (shape : Shape) (w : ℕ) (views : List Tally) (id : ℕ) (v : Tally) (
       go true is = draws_new (let l : w < v.numbers = grind (arith, nat_tests) in omega (arith, same_numbers))
       go false is = draws_none (let l : v.numbers ≤ w = grind (arith, nat_tests) in omega (arith, same_numbers))
 
-pub draws : (shape : Shape) (slots id : ℕ) (v : Tally) → v.parts ≡ 1 → v.missed ≡ 0 → Allows (Counted shape) slots id (v, []) 0 (λ n. (n + 1) % 2 ^ 64) (λ found after. after ≡ (after_draw v found, []))
+pub draws : (shape : Shape) (slots id : ℕ) (v : Tally) → v.parts ≡ 1 → v.missed ≡ 0
+    → Allows (Counted shape) slots id (v, []) 0 (λ n. (n + 1) % 2 ^ 64) (λ found after. after ≡ (after_draw v found, []))
 draws shape slots id v one none s h len at below =
     let w = h.0 in
     let d = h.2 in
-    let P : List ℕ → Type 0 = λ ws. (u : Tally) × (a : Act ℕ) × Valid s.homes [] a × Counted shape (record { words = slice_set ws 0 ((slice_index ws 0 + 1) % 2 ^ 64); homes = homes_after s.homes [] a; views = slice_set s.views id u }) × ◌≡◌ {A = Me ℕ Tally} (u, carried_after [] a) (after_draw v (slice_index ws 0), []) in
+    let P : List ℕ → Type 0 = λ ws. (u : Tally) × (a : Act ℕ) × Valid s.homes [] a
+    × Counted shape (record { words = slice_set ws 0 ((slice_index ws 0 + 1) % 2 ^ 64); homes = homes_after s.homes [] a; views = slice_set s.views id u })
+    × ◌≡◌ {A = Me ℕ Tally} (u, carried_after [] a) (after_draw v (slice_index ws 0), []) in
     let fits = no_wrap shape w s.views id v d at one none in
     let plain : (w + 1) % 2 ^ 64 ≡ w + 1 = omega arith in
     subst P (sym h.1) (after_draw v w, keeps, tt, (w + 1, ap (λ (n : ℕ). n ∷ []) plain, draws_step shape w s.views id v d at one none), refl)
@@ -109,7 +118,13 @@ module _ (shape : Shape) (w : ℕ) (views : List Tally) (d : IsCounted shape w v
     each = λ k u e. ⊎_elim
         (λ (was : get_elem? l k ≡ some u). each_set shape.numbers w w views id (fewer v) (omega arith) d.each
         (let h = d.each id v at in record { idle = λ z. absurd (omega arith); same = λ _. h.same (omega arith); missed = omega arith; past = h.past }) k u was)
-        (λ (is : newcomer v ≡ u). subst (IsTally shape.numbers w) is (let h = d.each id v at in record { idle = λ _. refl; same = λ _. h.same (omega arith); missed = omega arith; past = λ z. absurd (omega arith) }))
+        (λ (is : newcomer v ≡ u). subst (IsTally shape.numbers w) is (let h = d.each id v at in record {
+          idle = λ _. refl;
+          same = λ _. h.same (omega arith);
+          missed =
+              omega arith;
+          past = λ z. absurd (omega arith);
+        }))
         (at_snoc l (newcomer v) u k e);
   }
 
@@ -117,7 +132,8 @@ module _ (shape : Shape) (w : ℕ) (views : List Tally) (d : IsCounted shape w v
       → IsCounted shape w (set (set views id (joined v u)) other nobody)
   joins_in id v other u at apart there part = let m = joined v u in let l = set views id m in
       let h = d.each id v at in
-      let was : get_elem? views other ≡ some u = ⊎_elim (λ (t : (other ≡ id) × (m ≡ u)). absurd (apart t.0)) (λ (t : (other ≢ id) × (get_elem? views other ≡ some u)). t.1) (at_set views id other m u there) in
+      let was : get_elem? views other ≡ some u = ⊎_elim (λ (t : (other ≡ id) × (m ≡ u)). absurd (apart t.0)) (λ (t : (other ≢ id) × (get_elem? views other ≡ some u)). t.1)
+      (at_set views id other m u there) in
       let g = d.each other u was in record {
         fits = d.fits;
         parts = omega (arith, total_set (λ (y : Tally). y.parts) l other u nobody there, total_set (λ (y : Tally). y.parts) views id v m at, d.parts);
@@ -125,7 +141,13 @@ module _ (shape : Shape) (w : ℕ) (views : List Tally) (d : IsCounted shape w v
             let e = d.drawn x in let c = times-append x v.drawn u.drawn in omega arith;
         bound = omega (arith, total_set (λ (y : Tally). y.missed) l other u nobody there, total_set (λ (y : Tally). y.missed) views id v m at, d.bound);
         each = each_set shape.numbers w w l other nobody (omega arith)
-            (each_set shape.numbers w w views id m (omega arith) d.each (record { idle = λ z. absurd (omega arith); same = λ _. h.same part; missed = omega (arith, h.missed, g.missed); past = past_of v.missed u.missed shape.numbers w h.past g.past }))
+            (each_set shape.numbers w w views id m (omega arith) d.each (record {
+              idle = λ z. absurd (omega arith);
+              same = λ _. h.same part;
+              missed =
+                  omega (arith, h.missed, g.missed);
+              past = past_of v.missed u.missed shape.numbers w h.past g.past;
+            }))
             (record { idle = λ _. refl; same = λ z. absurd (omega arith); missed = omega arith; past = λ z. absurd (omega arith) });
       }
 
@@ -138,7 +160,8 @@ joins shape id v other u part s h at apart there = (h.0, h.1, joins_in shape h.0
 knows : (shape : Shape) (w : ℕ) (views : List Tally) → IsCounted shape w views → (id : ℕ) (v : Tally) → get_elem? views id ≡ some v → Knows shape w v
 knows shape w views d id v at = record {
   once = λ x. let a = total_at (λ (y : Tally). times x y.drawn) views id v at in let e = d.drawn x in omega arith;
-  every = λ all x. let a = total_alone (λ (y : Tally). times x y.drawn) (λ (y : Tally). y.parts) views id v at (omega (arith, d.parts)) (λ k u e z. ap (times x) ((d.each k u e).idle z)) in let e = d.drawn x in omega arith;
+  every = λ all x. let a = total_alone (λ (y : Tally). times x y.drawn) (λ (y : Tally). y.parts) views id v at (omega (arith, d.parts)) (λ k u e z. ap (times x) ((d.each k u e).idle z)) in
+      let e = d.drawn x in omega arith;
   past = (d.each id v at).past;
 }
 
@@ -171,4 +194,9 @@ ended shape w v ts h g n k en ek =
     }
 
 pub ended_alone : (n k w : ℕ) (ts : List Taken) → ts ≡ [] → 0 < k → Ended n k ts w
-ended_alone n k w ts e pos = let P : List Taken → Type 0 = λ l. Ended n k l w in subst P (sym e) record { once = λ x. omega arith; every = λ z. absurd (omega arith); done = λ j d h. absurd (omega arith) }
+ended_alone n k w ts e pos = let P : List Taken → Type 0 = λ l. Ended n k l w in subst P (sym e) record {
+  once = λ x. omega arith;
+  every = λ z. absurd (omega arith);
+  done =
+      λ j d h. absurd (omega arith);
+}

@@ -29,7 +29,14 @@ module _ {T : Type 0} (a : Inside T) (g : GroupView T) (is : view_of a ≡ g) wh
         (λ j. record (view_of a) { posted = set a.posted.items i (Some x); settled = k.0 j })
 
     pub posts_whole : (i : ℕ) (x : T) → posted_at g i ≡ None → IsGroup (record a { posted = with_item a.posted i (Some x) })
-    posts_whole i x none = record { tasks = h.tasks; drawn = h.drawn; draw_room = h.draw_room; settle_room = h.settle_room; settled = (keeps a.posted.items a.settlings.items i x h.settled (subst (λ (v : GroupView T). posted_at v i ≡ None) (sym is) none)).1 }
+    posts_whole i x none = record {
+      tasks = h.tasks;
+      drawn = h.drawn;
+      draw_room = h.draw_room;
+      settle_room = h.settle_room;
+      settled =
+          (keeps a.posted.items a.settlings.items i x h.settled (subst (λ (v : GroupView T). posted_at v i ≡ None) (sym is) none)).1;
+    }
 
     -- the number of settled tasks
     pub settled_count : length g.settled ≡ vec_len a.settlings
@@ -57,7 +64,8 @@ module _ {T : Type 0} (a : Inside T) (g : GroupView T) (is : view_of a ≡ g) wh
           (settled_at a.posted.items a.settlings.items k p t h.settled (slice_get-get_or a.posted.items k None (settled_within more)) here)
 
     -- one more settling, in a vector that has kept its capacity
-    module _ (p : Option T) (s : Settling T) (x : T) (at : slice_get g.posted (length g.settled) ≡ Some p) (by' : settled_layer p s ≡ Some x) (more : Vec (Settling T) Global) (pushed : more.items ≡ a.settlings.items ++ s ∷ []) where
+    module _ (p : Option T) (s : Settling T) (x : T) (at : slice_get g.posted (length g.settled) ≡ Some p) (by' : settled_layer p s ≡ Some x)
+        (more : Vec (Settling T) Global) (pushed : more.items ≡ a.settlings.items ++ s ∷ []) where
       at' : slice_get a.posted.items (length a.settlings.items) ≡ Some p
       at' = subst (λ (v : GroupView T). slice_get v.posted (length a.settlings.items) ≡ Some p) (sym is)
           (subst (λ (n : ℕ). slice_get g.posted n ≡ Some p) (settled_count ∙ a.settlings.ok.0) at)
@@ -101,7 +109,8 @@ map-replicate f (suc n) x = ap (λ l. f x ∷ l) (map-replicate f n x)
 settled_layers-nil : {T : Type 0} (ps : List (Option T)) (ss : List (Settling T)) → ss ≡ [] → settled_layers ps ss ≡ []
 settled_layers-nil ps ss e = ap (settled_layers ps) e
 
-pub opens : {T : Type 0} (base : Cells) (changes : T → Changes) (a : Inside T) (n : ℕ) → a.drawn.items ≡ [] → a.seen.items ≡ replicate n None → a.posted.items ≡ replicate n None → a.settlings.items ≡ []
+pub opens : {T : Type 0} (base : Cells) (changes : T → Changes) (a : Inside T) (n : ℕ) → a.drawn.items ≡ [] → a.seen.items ≡ replicate n None
+    → a.posted.items ≡ replicate n None → a.settlings.items ≡ []
     → machine base changes (view_of a) ≡ opening base n
 opens base changes a n drawn seen posted settled k = record {
   base = base;

@@ -84,7 +84,8 @@ module _ {T : Type 0} (g : GroupView T) (e : Event T) (b : Bool) (tells : (base 
     passed d is = ap (λ (x : Event T). M.is_enabled (machine (λ _. None) (λ _. no_changes) g) (event (λ _. no_changes) x)) (sym is) ∙ (sym (tells (λ _. None) (λ _. no_changes)) ∙ yes)
 
     pub draw_ready : (w : ℕ) → e ≡ Draw w → length g.drawn < length g.posted
-    draw_ready w is = let h : nat_lt (length g.drawn) (length g.posted) ≡ true = ap (nat_lt (length g.drawn)) (sym (length-map g.posted (option_map (λ _. no_changes)))) ∙ passed (Draw w) is in grind (arith, nat_tests)
+    draw_ready w is = let h : nat_lt (length g.drawn) (length g.posted) ≡ true = ap (nat_lt (length g.drawn)) (sym (length-map g.posted (option_map (λ _. no_changes))))
+        ∙ passed (Draw w) is in grind (arith, nat_tests)
 
     pub look_ready : (w i : ℕ) (predecessors : Vec ℕ Global) → e ≡ Look w i predecessors → i < length g.drawn
     look_ready w i predecessors is = let h : nat_lt i (length g.drawn) ≡ true = both-left _ _ (both-left (is_drawn g w i) _ (passed (Look w i predecessors) is)) in grind (arith, nat_tests)
@@ -101,7 +102,8 @@ module _ {T : Type 0} (g : GroupView T) (e : Event T) (b : Bool) (tells : (base 
     pub accept_ready : (i : ℕ) → e ≡ Accept i → IsSome (posted_at g (length g.settled))
     accept_ready i is =
         let h = passed (Accept i) is in
-        subst (λ (k : ℕ). IsSome (posted_at g k)) (next_is i (both-left _ _ h)) (sym (is_posted-machine g (λ _. None) (λ _. no_changes) i) ∙ both-right (i == length (map (λ (x : T). no_changes) g.settled)) _ h)
+        subst (λ (k : ℕ). IsSome (posted_at g k)) (next_is i (both-left _ _ h)) (sym (is_posted-machine g (λ _. None) (λ _. no_changes) i)
+        ∙ both-right (i == length (map (λ (x : T). no_changes) g.settled)) _ h)
 
     pub rerun_ready : (i : ℕ) (x : T) → e ≡ Rerun i x → length g.settled < length g.posted
     rerun_ready i x is =
@@ -122,13 +124,15 @@ module _ {T : Type 0} (g : GroupView T) (e : Event T) (b : Bool) (tells : (base 
       pub draw_lands : (w : ℕ) → e ≡ Draw w → next ≡ record g { drawn = g.drawn ++ w ∷ [] } → machine base changes next ≡ M.step m (event changes e)
       draw_lands w is to = lands_as (Draw w) is (ap (machine base changes) to ∙ draws g base changes w)
 
-      pub look_lands : (w i : ℕ) (predecessors : Vec ℕ Global) → e ≡ Look w i predecessors → next ≡ record g { seen = set g.seen i (Some predecessors.items) } → machine base changes next ≡ M.step m (event changes e)
+      pub look_lands : (w i : ℕ) (predecessors : Vec ℕ Global) → e ≡ Look w i predecessors → next ≡ record g { seen = set g.seen i (Some predecessors.items) }
+          → machine base changes next ≡ M.step m (event changes e)
       look_lands w i predecessors is to = lands_as (Look w i predecessors) is (ap (machine base changes) to ∙ looks g base changes w i predecessors.items)
 
       pub post_lands : (w i : ℕ) (x : T) → e ≡ Post w i x → next ≡ record g { posted = set g.posted i (Some x) } → machine base changes next ≡ M.step m (event changes e)
       post_lands w i x is to = lands_as (Post w i x) is (ap (machine base changes) to ∙ posts g base changes w i x)
 
-      pub accept_lands : (i : ℕ) → e ≡ Accept i → IfSome (posted_at g (length g.settled)) (λ x. next ≡ record g { settled = g.settled ++ x ∷ [] }) → machine base changes next ≡ M.step m (event changes e)
+      pub accept_lands : (i : ℕ) → e ≡ Accept i → IfSome (posted_at g (length g.settled)) (λ x. next ≡ record g { settled = g.settled ++ x ∷ [] })
+          → machine base changes next ≡ M.step m (event changes e)
       accept_lands i is to = go (posted_at g (length g.settled)) refl to
         where
           at : i ≡ length g.settled

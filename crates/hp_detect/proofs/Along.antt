@@ -52,7 +52,8 @@ along_more e all i x d n os new o low is before same answer learns more =
           ap₂ (λ xs h. map (option_map occurrence) xs ++ occurrences_along e h (map primitive (drop (i + 1) all))) more here
           ∙ ap (λ ys. ys ++ occurrences_along e (primitive x ∷ past) (map primitive (drop (i + 1) all))) (map-append (option_map occurrence) os (o ∷ []))
           ∙ append_assoc (map (option_map occurrence) os) (option_map occurrence o ∷ []) (occurrences_along e (primitive x ∷ past) (map primitive (drop (i + 1) all)))
-          ∙ ap (λ a. map (option_map occurrence) os ++ (a ∷ occurrences_along e (primitive x ∷ past) (map primitive (drop (i + 1) all)))) (answer past before.knows ∙ ap (λ v. occurrence_of v (primitive x ∷ past)) before.event)
+          ∙ ap (λ a. map (option_map occurrence) os ++ (a ∷ occurrences_along e (primitive x ∷ past) (map primitive (drop (i + 1) all))))
+          (answer past before.knows ∙ ap (λ v. occurrence_of v (primitive x ∷ past)) before.event)
           ∙ ap (λ xs. map (option_map occurrence) os ++ occurrences_along e past (map primitive xs)) (sym (rest_at all i x low is))
           ∙ before.answers;
     }

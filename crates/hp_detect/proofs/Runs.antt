@@ -80,7 +80,8 @@ module _ {A : Type 0} (E : A → A → Bool) where
   differ_from (suc n) (x ∷ xs) (y ∷ ys) h = and_false (E x y) _ (differ_from n xs ys h)
 
   -- the first items of two runs, and whether they are equal
-  module _ {X : Type 0} (f : X → A) (here there : List X) (xs ys : List A) (at n : ℕ) (h : IsRun (map f here) at xs) (k : IsRun (map f there) at ys) (low : n ≤ length here) (low' : n ≤ length there) where
+  module _ {X : Type 0} (f : X → A) (here there : List X) (xs ys : List A) (at n : ℕ) (h : IsRun (map f here) at xs) (k : IsRun (map f there) at ys)
+      (low : n ≤ length here) (low' : n ≤ length there) where
     next : (run : List X) (zs : List A) → IsRun (map f run) at zs → n ≤ length run → take n (drop at zs) ≡ map f (take n run)
     next run zs h low =
         ap (take n) h.begins ∙ take-append-le n (map f run) (drop (at + length (map f run)) zs) (omega (arith, low, length-map run f)) ∙ take-map f n run

@@ -11,7 +11,8 @@ use Rattle.hp_model.specs.Tree.{Task}
 use Rattle.hp_model.specs.Firing.{Firing, fire_task, siblings, Siblings, after_firing}
 use Rattle.hp_model.specs.Cells.{Cells, cells, Changes, over, Holds}
 use Rattle.hp_model.specs.Soundness.{Attempt}
-use Rattle.hp_model.specs.Groups.{Machine, Event, draw, look, post, accept, rerun, opening, posted_at, is_enabled, settling, effect, step, run, layered, cells_now, MayGoOn, IfEnabled, IsLawfulEvent, IsLawful, IsAccepted}
+use Rattle.hp_model.specs.Groups.{Machine, Event, draw, look, post, accept, rerun, opening, posted_at, is_enabled, settling, effect, step, run, layered, cells_now, MayGoOn}
+use Rattle.hp_model.specs.Groups.{IfEnabled, IsLawfulEvent, IsLawful, IsAccepted}
 use Rattle.hp_model.specs.States.{States, ordered_states, IsOneOf, IsSoundFor}
 use Rattle.hp_model.specs.Accepting.{LeadsFor, IsLawfulEventFor, IsLawfulFor, IsAcceptedFor}
 use Rattle.hp_model.proofs.Ordered.{fire_ordered}

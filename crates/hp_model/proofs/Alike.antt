@@ -9,14 +9,23 @@ use Rattle.std.proofs.lemmas.List.{length-map, length-set, set_past}
 use Rattle.hp_model.specs.Values.{Value, Row, Veto, exists, missing, requested, Outcome}
 use Rattle.hp_model.specs.Occurrences.{Primitive, created, updated, deleted, signalled, commit_reached, moment_reached, History}
 use Rattle.hp_model.specs.Events.{Event, occurrence_of}
-use Rattle.hp_model.specs.Rules.{Coupling, immediate, deferred, separate, dependent, exclusive, is_immediate, Rule, no_rule, Library, rule_at, class_at, Statement, create, update, delete, signal, emit, when, each, for_answer, with_object, subtransaction, let_value, abort, veto, veto_with, on_rule, fire, Body, empty, ◌then◌, RuleOperation, install, enable, disable, remove}
-use Rattle.hp_model.specs.State.{Objects, State, RuleState, Status, absent, enabled, disabled, with_status, rule_state, with_objects, with_rule, extended, extended_rule, find_object, write_object, remove_object}
+use Rattle.hp_model.specs.Rules.{Coupling, immediate, deferred, separate, dependent, exclusive, is_immediate, Rule, no_rule, Library, rule_at, class_at, Statement, create, update}
+use Rattle.hp_model.specs.Rules.{delete, signal, emit, when, each, for_answer, with_object, subtransaction, let_value, abort, veto, veto_with, on_rule, fire, Body, empty, ◌then◌}
+use Rattle.hp_model.specs.Rules.{RuleOperation, install, enable, disable, remove}
+use Rattle.hp_model.specs.State.{Objects, State, RuleState, Status, absent, enabled, disabled, with_status, rule_state, with_objects, with_rule, extended, extended_rule}
+use Rattle.hp_model.specs.State.{find_object, write_object, remove_object}
 use Rattle.hp_model.specs.Expressions.{value_of}
 use Rattle.hp_model.specs.Conditions.{Findings, Verdict, satisfied, unsatisfied, faulty, answer, verdict, let_of}
-use Rattle.hp_model.specs.Tree.{Task, Step, condition_step, action_step, Node, sub_node, fire_node, act_node, with_action, Operation, create_op, update_op, delete_op, rule_op, no_items, operation, append}
+use Rattle.hp_model.specs.Tree.{Task, Step, condition_step, action_step, Node, sub_node, fire_node, act_node, with_action, Operation, create_op, update_op, delete_op, rule_op}
+use Rattle.hp_model.specs.Tree.{no_items, operation, append}
 use Rattle.hp_model.specs.Transactions.{End, done, abort_by, veto_by, Course, Work, ends, joined, after_end, then_do, with_value, for_each, with_items, closed, closed_by, undone, drained, placed}
-use Rattle.hp_model.specs.Firing.{Firing, Fire, after_firing, siblings, Siblings, course_of, Level, start, task_if, triggered_by, triggered_from, triggered, signal_in, Context, with_row, with_let, operated, created_if_absent, updated_if_present, deleted_if_present, changed_row, made_row, checked_kinds, keyed_row, integer_value, boolean_value, values_of, answer_named, named_object, operated_rule, fired_task, start_fired, vetoes, nested, sub_by, sub_in, choose, run_statement, run_body, firing_with, run_action, action_course, action_context, action_veto, follow, decide, take_step, task_environment, below_limit, level_at, fire_task}
-use Rattle.hp_model.specs.Cascade.{Unit, transaction, moment, now_in, no_context, unit_work, veto_end, task_work, most_rounds, next_round, rounds, top_course, top, Generation, alone, followed_by, generation, due, Cascade, before_cascade, cascade, run_unit, transactions_of, transaction_report, time_of, unit_report}
+use Rattle.hp_model.specs.Firing.{Firing, Fire, after_firing, siblings, Siblings, course_of, Level, start, task_if, triggered_by, triggered_from, triggered, signal_in, Context}
+use Rattle.hp_model.specs.Firing.{with_row, with_let, operated, created_if_absent, updated_if_present, deleted_if_present, changed_row, made_row, checked_kinds, keyed_row}
+use Rattle.hp_model.specs.Firing.{integer_value, boolean_value, values_of, answer_named, named_object, operated_rule, fired_task, start_fired, vetoes, nested, sub_by, sub_in}
+use Rattle.hp_model.specs.Firing.{choose, run_statement, run_body, firing_with, run_action, action_course, action_context, action_veto, follow, decide, take_step, task_environment}
+use Rattle.hp_model.specs.Firing.{below_limit, level_at, fire_task}
+use Rattle.hp_model.specs.Cascade.{Unit, transaction, moment, now_in, no_context, unit_work, veto_end, task_work, most_rounds, next_round, rounds, top_course, top, Generation}
+use Rattle.hp_model.specs.Cascade.{alone, followed_by, generation, due, Cascade, before_cascade, cascade, run_unit, transactions_of, transaction_report, time_of, unit_report}
 use Rattle.hp_model.specs.Snapshots.{RulesAlike, StatesAlike, AlikeGoOn}
 use Rattle.hp_model.proofs.BridgesSignals.{rule_state-extended}
 use Rattle.hp_model.proofs.BridgesWrites.{rule_state-here, rule_state-apart}
@@ -100,7 +109,8 @@ module _ (library : Library) where
       by m true is false beyond =
           let high = ltb-false n (length S.rules) beyond in
           subst (λ rs. RulesAlike (rule_at library m).event (slice_index_or rs m (with_status absent)) (rule_state (with_rule T n s) m)) (sym (set_past S.rules n r high))
-          (subst (λ ss. RulesAlike (rule_at library m).event (rule_state S m) (slice_index_or ss m (with_status absent))) (sym (set_past T.rules n s (subst (λ k. k ≤ n) like.rules high))) (like.each m))
+          (subst (λ ss. RulesAlike (rule_at library m).event (rule_state S m) (slice_index_or ss m (with_status absent))) (sym (set_past T.rules n s (subst (λ k. k ≤ n) like.rules high)))
+          (like.each m))
       by m false is c below =
           let apart = eqb-false m n is in
           subst (λ x. RulesAlike (rule_at library m).event x (rule_state (with_rule T n s) m)) (sym (rule_state-apart S n m r apart))
@@ -164,11 +174,19 @@ module _ (library : Library) where
 
   -- one more firing, before siblings that are the same
   one_more : (f : Firing) (T : State) (g h : Siblings) → Like f.state T → Same (course_of g) (course_of h)
-      → Same (course_of (record { firings = f ∷ g.firings; state = g.state; vetoed_by = g.vetoed_by })) (course_of (record { firings = moved_firing T f ∷ h.firings; state = h.state; vetoed_by = h.vetoed_by }))
+      → Same (course_of (record { firings = f ∷ g.firings; state = g.state; vetoed_by = g.vetoed_by }))
+      (course_of (record { firings = moved_firing T f ∷ h.firings; state = h.state; vetoed_by = h.vetoed_by }))
   one_more f T g h like same = record {
     to = same.to;
     like = same.like;
-    is = λ i. record { state = (same.is i).state; queued = f.queued ++ (same.is i).queued; detached = f.detached ++ (same.is i).detached; items = append f.items (same.is i).items; end = (same.is i).end };
+    is = λ i. record {
+      state = (same.is i).state;
+      queued = f.queued ++ (same.is i).queued;
+      detached = f.detached ++ (same.is i).detached;
+      items =
+          append f.items (same.is i).items;
+      end = (same.is i).end;
+    };
   }
 
   same_siblings : (stops : Bool) (v : Option Veto) (f : Firing) (T : State) (rest : State → Siblings) → Like f.state T → Blind (λ S. course_of (rest S))
@@ -260,7 +278,8 @@ module _ (library : Library) where
     fresh : (event : Event) (s : Status) → RulesAlike event (with_status s) (with_status s)
     fresh event s = record { status = refl; future = λ is p later. refl }
 
-    same_rule : (op : RuleOperation) (n : ℕ) (a b : Status) (h k : History) (S T : State) → RulesAlike (rule_at library n).event (record { status = a; past = h }) (record { status = b; past = k }) → Like S T
+    same_rule : (op : RuleOperation) (n : ℕ) (a b : Status) (h k : History) (S T : State)
+        → RulesAlike (rule_at library n).event (record { status = a; past = h }) (record { status = b; past = k }) → Like S T
         → Same (rule_work op n (record { status = a; past = h }) S) (rule_work op n (record { status = b; past = k }) T)
     same_rule install n absent absent h k S T same like = set_same install n _ _ S T (fresh (rule_at library n).event enabled) like
     same_rule install n enabled enabled h k S T same like = set_same install n _ _ S T same like
@@ -311,7 +330,8 @@ module _ (library : Library) where
       blind_statement (signal name arguments) context = blind_value (values_of context.environment arguments) _ (λ vs. blind_signal (signalled name vs))
       blind_statement (emit e) context = blind_value (value_of context.environment e) _ (λ v S T like. record { to = T; like = like; is = refl })
       blind_statement (when e then_body else_body) context =
-          blind_value (boolean_value context.environment e) _ (λ b. blind_choice b (run_body then_body level context) (run_body else_body level context) (blind_body then_body context) (blind_body else_body context))
+          blind_value (boolean_value context.environment e) _ (λ b. blind_choice b (run_body then_body level context) (run_body else_body level context)
+          (blind_body then_body context) (blind_body else_body context))
       blind_statement (each x class predicate body) context =
           by_objects (λ objects. with_value (answer context.environment x class predicate objects) (λ rows. for_each rows (λ r. run_body body level (with_row x r context))))
           (λ objects. blind_value (answer context.environment x class predicate objects) _ (λ rows. blind_each rows _ (λ r. blind_body body (with_row x r context))))
@@ -427,7 +447,8 @@ module _ (library : Library) where
   same_alone t (abort_by x) S T T' c like like' = record { to = T; like = like; is = refl }
   same_alone t (veto_by v) S T T' c like like' = record { to = T; like = like; is = refl }
 
-  blind_alone : (t : Option Task) (now depth : ℕ) (work : Work) → Blind work → (S T : State) → Like S T → SameGeneration (alone t (top library now depth work S)) (alone t (top library now depth work T))
+  blind_alone : (t : Option Task) (now depth : ℕ) (work : Work) → Blind work → (S T : State) → Like S T
+      → SameGeneration (alone t (top library now depth work S)) (alone t (top library now depth work T))
   blind_alone t now depth work blind S T like =
       let c = top_course library now depth work S in
       let same = blind_top_course now depth work blind S T like in

@@ -22,7 +22,8 @@ module _ (merge : Merge) (env : Environment) (x : Name) (predicate term : Expres
   rest_after so_far r rs keep =
       (if keep then (value_of (bound x r env) term >>= λ w. merge so_far w >>= λ m. Ok (Some m)) else Ok so_far) >>= λ next. merged merge env x predicate term next rs
 
-  by_test : (keep : KeyedRow → Bool) (others : List KeyedRow) (r : KeyedRow) (rs : List KeyedRow) → ((so_far : Option Value) → merged merge env x predicate term so_far rs ≡ merged merge env x predicate term so_far others)
+  by_test : (keep : KeyedRow → Bool) (others : List KeyedRow) (r : KeyedRow) (rs : List KeyedRow)
+      → ((so_far : Option Value) → merged merge env x predicate term so_far rs ≡ merged merge env x predicate term so_far others)
       → (so_far : Option Value) (b : Bool) → (b ≡ false → test r ≡ Ok false) → merged merge env x predicate term so_far (r ∷ rs) ≡ merged merge env x predicate term so_far (cond b (r ∷ others) others)
   by_test keep others r rs same so_far true is = λ i.
       value_of (bound x r env) predicate >>= λ v. as_boolean v >>= λ k.
@@ -60,7 +61,8 @@ picked_kept p [] hits e = let same : [] ≡ hits = cc in sym same
 picked_kept p (r ∷ rs) hits e = one_picked (belongs p r) (picked p rs) r (filter (λ s. is_in (belongs p s)) rs) hits (λ more is. picked_kept p rs more is) e
 
 -- where the predicate is false outside a part, the part's rows are enough
-pub merged_by_part : (merge : Merge) (env : Environment) (x : Name) (predicate term : Expression) (p : ClassPart) → ((r : KeyedRow) → belongs p r ≡ Ok false → boolean_value (bound x r env) predicate ≡ Ok false)
+pub merged_by_part : (merge : Merge) (env : Environment) (x : Name) (predicate term : Expression) (p : ClassPart)
+    → ((r : KeyedRow) → belongs p r ≡ Ok false → boolean_value (bound x r env) predicate ≡ Ok false)
     → (so_far : Option Value) (rows hits : List KeyedRow) → picked p rows ≡ Ok hits → merged merge env x predicate term so_far rows ≡ merged merge env x predicate term so_far hits
 merged_by_part merge env x predicate term p elsewhere so_far rows hits is =
     merged_kept merge env x predicate term (λ r. is_in (belongs p r)) (λ r e. elsewhere r (outside (belongs p r) e)) so_far rows

@@ -16,7 +16,8 @@ use Rattle.std.proofs.lemmas.Map.Keys.{IsDistinct-from_sorted}
 use Rattle.hp_model.specs.Values.{Row}
 use Rattle.hp_model.specs.Events.{is_pure}
 use Rattle.hp_model.specs.Rules.{Library, rule_at}
-use Rattle.hp_model.specs.State.{ObjectName, compare_names, object_name, Objects, find_object, write_object, remove_object, State, absent, RuleState, rule_state, with_status, with_objects, with_rule, IsOrdered}
+use Rattle.hp_model.specs.State.{ObjectName, compare_names, object_name, Objects, find_object, write_object, remove_object, State, absent, RuleState, rule_state, with_status}
+use Rattle.hp_model.specs.State.{with_objects, with_rule, IsOrdered}
 use Rattle.hp_model.specs.Cells.{Cell, object_cell, rule_cell, detector_cell, CellValue, row_value, Cells, cells, status_in, knowledge_in, Changes, no_changes, changed, over, same_cell, with_change}
 use Rattle.hp_model.proofs.Ordered.{names_total}
 use Rattle.hp_model.proofs.BridgesCells.{name_at, same_turn, stacked, over-over, over-with_change, stacked-with_change}
@@ -78,7 +79,8 @@ pub write_changes : (library : Library) (S : State) (class : ℕ) (key : ℤ) (r
     → ChangesCell library S (with_objects S (write_object S.objects class key row)) (object_cell class key) (Some (row_value row))
 write_changes library S class key row = record { at = at }
   where
-    at : (q : Cell) → cells library (with_objects S (write_object S.objects class key row)) q ≡ changed (cells library S q) (if same_cell (object_cell class key) q then Some (Some (row_value row)) else None)
+    at : (q : Cell) → cells library (with_objects S (write_object S.objects class key row)) q ≡ changed (cells library S q)
+        (if same_cell (object_cell class key) q then Some (Some (row_value row)) else None)
     at (object_cell d l) =
         ap (option_map row_value) (find_object-write S.objects class key row d l)
         ∙ row_choice (same_cell (object_cell class key) (object_cell d l)) (find_object S.objects d l) (Some row)
@@ -150,7 +152,8 @@ pub pure_rule_changes : (library : Library) (S : State) (n : ℕ) (r : RuleState
     → ChangesCell library S (with_rule S n r) (rule_cell n) (status_in r.status)
 pure_rule_changes library S n r below pure = record { at = at }
   where
-    in_detector : (m : ℕ) (b : Bool) → (n == m) ≡ b → changed (cells library S (detector_cell m)) (if b then Some (knowledge_in (rule_at library n) r.status r) else None) ≡ cells library S (detector_cell m)
+    in_detector : (m : ℕ) (b : Bool) → (n == m) ≡ b
+        → changed (cells library S (detector_cell m)) (if b then Some (knowledge_in (rule_at library n) r.status r) else None) ≡ cells library S (detector_cell m)
     in_detector m true is =
         knowledge_in-pure (rule_at library n) r.status r pure
         ∙ sym (subst (λ k. cells library S (detector_cell k) ≡ None) ((Decides-eqb n m).0 is) (detector-cells-pure library S n pure))

@@ -3,11 +3,17 @@ use Rattle.std.proofs.Common.{◌≡◌, refl, subst, ℕ, zero, suc, ℤ, pos, 
 use Rattle.std.specs.Prelude.{⊤, Ok, Err, bytes_eq, slice_get, int_div, int_rem, neg_ℤ, if◌then◌else◌, ◌+ℤ◌, ◌-ℤ◌, ◌*ℤ◌, not}
 use Rattle.std.specs.List.{last_or}
 use Rattle.std.specs.Map.{lookup}
-use Rattle.hp_model.specs.Values.{Name, Kind, Field, kind_of, is_kind, Value, integer, boolean, text, Row, KeyedRow, Cause, wrong_kind, overflow, divide_by_zero, no_parameter, missing, Outcome, ◌>>=◌, or_cause, fits_64}
+use Rattle.hp_model.specs.Values.{Name, Kind, Field, kind_of, is_kind, Value, integer, boolean, text, Row, KeyedRow, Cause, wrong_kind, overflow, divide_by_zero, no_parameter}
+use Rattle.hp_model.specs.Values.{missing, Outcome, ◌>>=◌, or_cause, fits_64}
 use Rattle.hp_model.specs.Occurrences.{Primitive, created, updated, deleted, signalled, commit_reached, moment_reached, Occurrence}
-use Rattle.hp_model.specs.Expressions.{Arithmetic, plus, minus, times, quotient, remainder, Comparison, equal, unequal, less, at_most, greater, at_least, Expression, constant, arithmetic, negated, inverted, both, either, compared, field_of, key_of, new_field, old_field, key_in, argument, time_of, occurrence_count, value_named, time_now, Environment, bound, holding, as_integer, as_boolean, in_range, calculate, is_below, is_equal, compare, part_of, row_named, field_in, new_row, old_row, operation_key, argument_of, moment_of, count_in, value_of}
-use Rattle.hp_model.specs.Conditions.{selected, answer, Merge, merged, added, preferred, row_count, key_after, present, aggregated, let_of, Verdict, satisfied, unsatisfied, faulty, if_answered, if_unanswered, if_valued, keeping, keeping_value, verdict}
-use Rattle.hp_model.specs.Rules.{Aggregate, count_over, sum_over, least_over, greatest_over, next_key, single, Entry, query_entry, no_entry, let_entry, Assignment, RuleOperation, install, enable, disable, remove}
+use Rattle.hp_model.specs.Expressions.{Arithmetic, plus, minus, times, quotient, remainder, Comparison, equal, unequal, less, at_most, greater, at_least, Expression, constant}
+use Rattle.hp_model.specs.Expressions.{arithmetic, negated, inverted, both, either, compared, field_of, key_of, new_field, old_field, key_in, argument, time_of, occurrence_count}
+use Rattle.hp_model.specs.Expressions.{value_named, time_now, Environment, bound, holding, as_integer, as_boolean, in_range, calculate, is_below, is_equal, compare, part_of}
+use Rattle.hp_model.specs.Expressions.{row_named, field_in, new_row, old_row, operation_key, argument_of, moment_of, count_in, value_of}
+use Rattle.hp_model.specs.Conditions.{selected, answer, Merge, merged, added, preferred, row_count, key_after, present, aggregated, let_of, Verdict, satisfied, unsatisfied, faulty}
+use Rattle.hp_model.specs.Conditions.{if_answered, if_unanswered, if_valued, keeping, keeping_value, verdict}
+use Rattle.hp_model.specs.Rules.{Aggregate, count_over, sum_over, least_over, greatest_over, next_key, single, Entry, query_entry, no_entry, let_entry, Assignment, RuleOperation}
+use Rattle.hp_model.specs.Rules.{install, enable, disable, remove}
 use Rattle.hp_model.specs.State.{Objects, rows_of, class_keys, find_object, Status, absent, enabled, disabled, RuleState}
 use Rattle.hp_model.specs.Firing.{values_of, assigned, of_kind, made_row, kind_in, checked_kinds, keyed_row, integer_value, boolean_value, named_object, operated_rule}
 use Rattle.hp_model.specs.Chains.{NotTooDeep}

@@ -6,7 +6,8 @@ use Rattle.hp_model.specs.State.{State}
 use Rattle.hp_model.specs.Tree.{Task, Step, condition_step, action_step, Node, fire_node, act_node, with_action}
 use Rattle.hp_model.specs.Transactions.{End, done, abort_by, veto_by, Course, closed_by}
 use Rattle.hp_model.specs.Conditions.{Findings, Verdict, satisfied, unsatisfied, faulty, verdict}
-use Rattle.hp_model.specs.Firing.{Firing, Siblings, after_firing, siblings, end_of, closed_veto, action_veto, fault_veto, run_action, action_course, follow, decide, take_step, level_at, fire_task, task_environment}
+use Rattle.hp_model.specs.Firing.{Firing, Siblings, after_firing, siblings, end_of, closed_veto, action_veto, fault_veto, run_action, action_course, follow, decide, take_step}
+use Rattle.hp_model.specs.Firing.{level_at, fire_task, task_environment}
 use Rattle.hp_model.specs.Cascade.{veto_end}
 use Rattle.hp_model.specs.Laws.{EndsWell, FiringEndsWell, ClosedFiringsVeto, AreClosedWell, ClosedGroupsAbort, ClosedTasksAbort}
 
@@ -31,7 +32,8 @@ module _ (library : Library) (t : Task) (is_closed : (rule_at library t.rule).cl
       let c = action_course (level_at library t.now t.depth) t found S in
       says S c t.rule c.end (subst (λ b. action_veto b t.rule c.end ≡ None) is_closed none)
 
-  follow_well : (place : Coupling) (found : Findings) → (follow place (level_at library t.now t.depth) t found S).vetoed_by ≡ None → FiringEndsWell (follow place (level_at library t.now t.depth) t found S).items
+  follow_well : (place : Coupling) (found : Findings) → (follow place (level_at library t.now t.depth) t found S).vetoed_by ≡ None
+      → FiringEndsWell (follow place (level_at library t.now t.depth) t found S).items
   follow_well immediate found none = action_well (fire_node t.rule t.place with_action) (fire_says t.rule t.place) found none
   follow_well deferred found none = refl
   follow_well separate found none = refl

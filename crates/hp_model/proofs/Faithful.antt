@@ -5,7 +5,8 @@ use Rattle.hp_model.specs.Values.{Veto, Cause, Outcome}
 use Rattle.hp_model.specs.Rules.{Library}
 use Rattle.hp_model.specs.State.{State, IsOrdered}
 use Rattle.hp_model.specs.Tree.{Task, Items, no_items, operation, emission, detachment, node, append, Node, sub_node, without_detachments}
-use Rattle.hp_model.specs.Transactions.{End, done, abort_by, veto_by, Course, Work, ends, for_each, joined, after_end, then_do, with_value, with_items, closed_by, closed, detachments, placed, detached_of}
+use Rattle.hp_model.specs.Transactions.{End, done, abort_by, veto_by, Course, Work, ends, for_each, joined, after_end, then_do, with_value, with_items, closed_by, closed}
+use Rattle.hp_model.specs.Transactions.{detachments, placed, detached_of}
 use Rattle.hp_model.specs.Firing.{Firing, nested, sub_by, sub_in}
 use Rattle.hp_model.specs.Cells.{Cell, CellValue, Cells, cells, Changes, over, Read, Holds}
 use Rattle.hp_model.specs.Soundness.{Answer, answer_of, FiringAnswer, firing_answer, LeadsTo, Faithful}
@@ -244,7 +245,8 @@ followed-none a is i = record { end = sym is i; queued = append-nil a.queued i; 
 -- a loop over a list: whatever the rest does, with what was done so far it makes the whole
 module _ {A : Type 0} (library : Library) (work : A → Work) (whole : Work) (w0 : Changes) where
   pub record Completes (left : List A) (reads : List Read) (now : Changes) (so_far : Answer) : Type 0 where
-    pub by : (more : List Read) (after : Changes) (b : Answer) → Grows reads more → FaithfulWork library (for_each left work) more now after b → FaithfulWork library whole more w0 after (followed so_far b)
+    pub by : (more : List Read) (after : Changes) (b : Answer) → Grows reads more → FaithfulWork library (for_each left work) more now after b
+        → FaithfulWork library whole more w0 after (followed so_far b)
 
   -- one more element is done
   pub each_more : {x : A} {xs : List A} {reads more : List Read} {w1 w2 : Changes} {so_far got : Answer} → got.end ≡ done → Grows reads more

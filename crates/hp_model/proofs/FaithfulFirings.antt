@@ -8,12 +8,15 @@ use Rattle.hp_model.specs.State.{State, extended}
 use Rattle.hp_model.specs.Conditions.{Findings, Verdict, verdict}
 use Rattle.hp_model.specs.Tree.{condition_step, Task, no_items, node, append, Node, committed, without_detachments}
 use Rattle.hp_model.specs.Transactions.{End, done, abort_by, veto_by, Course, closed_by, placed, detached_of}
-use Rattle.hp_model.specs.Firing.{Firing, Fire, Siblings, after_firing, siblings, queued_by, detached_by, items_of, end_of, course_of, Level, triggered, start, signal_in, action_veto, firing_with, inert, idle, task_environment, action_course, run_action, deferring, decide, take_step, level_at, fire_task}
+use Rattle.hp_model.specs.Firing.{Firing, Fire, Siblings, after_firing, siblings, queued_by, detached_by, items_of, end_of, course_of, Level, triggered, start, signal_in}
+use Rattle.hp_model.specs.Firing.{action_veto, firing_with, inert, idle, task_environment, action_course, run_action, deferring, decide, take_step, level_at, fire_task}
 use Rattle.hp_model.specs.Cells.{Changes, over, Read}
 use Rattle.hp_model.specs.Soundness.{Answer, answer_of, FiringAnswer, firing_answer, LeadsTo, Faithful}
-use Rattle.hp_model.specs.Answers.{FaithfulWork, FaithfulFiring, SiblingsAnswer, siblings_answer, FaithfulSiblings, Finds, ended, placing, followed, kept, closing_action, standing, handing_on, queued_in, detached_in, items_in, group_answer}
+use Rattle.hp_model.specs.Answers.{FaithfulWork, FaithfulFiring, SiblingsAnswer, siblings_answer, FaithfulSiblings, Finds, ended, placing, followed, kept, closing_action, standing}
+use Rattle.hp_model.specs.Answers.{handing_on, queued_in, detached_in, items_in, group_answer}
 use Rattle.hp_model.proofs.Levels.{below_fires, below_none, below_some}
-use Rattle.hp_model.proofs.Faithful.{Grows, Grows-same, Grows-then, held_before, without-append, without-detachments, faithful_ends, faithful_placed, firing_found, faithful_then, closed_cells, closed_ordered}
+use Rattle.hp_model.proofs.Faithful.{Grows, Grows-same, Grows-then, held_before, without-append, without-detachments, faithful_ends, faithful_placed, firing_found, faithful_then}
+use Rattle.hp_model.proofs.Faithful.{closed_cells, closed_ordered}
 
 -- ---- firings
 
@@ -35,7 +38,8 @@ faithful_deferring what ts {library} = record {
 }
 
 closed_firing : (what : Node) (b : Bool) (rule : ℕ) (e : End) (S : State) (c : Course)
-    → firing_answer (firing_with what (closed_by e S c) (action_veto b rule e)) ≡ closing_action what b rule (record { end = e; queued = c.queued; detached = c.detached; items = without_detachments c.items })
+    → firing_answer (firing_with what (closed_by e S c) (action_veto b rule e)) ≡ closing_action what b rule
+    (record { end = e; queued = c.queued; detached = c.detached; items = without_detachments c.items })
 closed_firing what b rule done S c = refl
 closed_firing what b rule (abort_by x) S c = refl
 closed_firing what b rule (veto_by r) S c = refl
@@ -135,7 +139,8 @@ module _ (library : Library) (fire : Fire) (stops : Bool) (whole : List Task) (w
       subst (λ fs. FaithfulSiblings library (siblings fire stops whole) reads w0 w1 (record { firings = fs; vetoed_by = None })) (append-nil so_far)
       (c.by reads w1 (record { firings = []; vetoed_by = None }) (Grows-same reads) (faithful_no_siblings fire stops))
 
-pub group_vetoed : (library : Library) (fire : Fire) (whole : List Task) (w0 : Changes) {t : Task} {ts : List Task} {reads more : List Read} {w1 w2 : Changes} {so_far : List FiringAnswer} {f : FiringAnswer} (r : Veto)
+pub group_vetoed : (library : Library) (fire : Fire) (whole : List Task) (w0 : Changes) {t : Task} {ts : List Task} {reads more : List Read} {w1 w2 : Changes}
+    {so_far : List FiringAnswer} {f : FiringAnswer} (r : Veto)
     → f.vetoed_by ≡ Some r → Grows reads more → GroupCompletes library fire true whole w0 (t ∷ ts) reads w1 so_far → FaithfulFiring library (λ S. fire S t) more w1 w2 f
     → FaithfulSiblings library (siblings fire true whole) more w0 w2 (record { firings = so_far ++ f ∷ []; vetoed_by = Some r })
 group_vetoed library fire whole w0 {t} {ts} {reads} {more} {w1} {w2} {so_far} {f} r vetoes grows c p =

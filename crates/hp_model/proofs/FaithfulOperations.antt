@@ -13,7 +13,8 @@ use Rattle.hp_model.specs.Firing.{Level, changed_row, operated_rule, created_if_
 use Rattle.hp_model.specs.Cells.{object_cell, rule_cell, detector_cell, CellValue, row_value, Cells, cells, status_in, knowledge_in, Changes, over, with_change, Read, Holds}
 use Rattle.hp_model.specs.Soundness.{Answer, answer_of, LeadsTo}
 use Rattle.hp_model.specs.Answers.{FaithfulWork, Finds, ended, tells, followed}
-use Rattle.hp_model.specs.Operations.{Operated, FaithfulOperation, create_where, create_object, update_where, update_object, delete_where, delete_object, operation_items, new_status, set_where, set_rule}
+use Rattle.hp_model.specs.Operations.{Operated, FaithfulOperation, create_where, create_object, update_where, update_object, delete_where, delete_object, operation_items}
+use Rattle.hp_model.specs.Operations.{new_status, set_where, set_rule}
 use Rattle.hp_model.proofs.BridgesOrdered.{write_ordered, remove_ordered, rule_ordered}
 use Rattle.hp_model.proofs.BridgesReads.{row_at, status_at, find_object-cells, status-cells}
 use Rattle.hp_model.proofs.BridgesWrites.{cells_changed, write_changes, remove_changes, with_rule-same, rule_changed, pure_rule_changes}
@@ -58,7 +59,8 @@ pub faithful_create : (class : ℕ) (key : ℤ) (new : Row) {library : Library} 
 faithful_create class key new {library} {reads} {before} {after} finds writes = operation_found (λ found. create_where found class key new) finds (record {
   from = λ base held S ordered is. record {
     answers = refl;
-    reaches = cells_changed library S (with_objects S (write_object S.objects class key new)) (object_cell class key) (Some (row_value new)) base before after (write_changes library S class key new) writes is;
+    reaches = cells_changed library S (with_objects S (write_object S.objects class key new)) (object_cell class key) (Some (row_value new)) base before
+        after (write_changes library S class key new) writes is;
     ordered = write_ordered library S class key new ordered;
   };
 })
@@ -73,7 +75,8 @@ pub faithful_update : (class : ℕ) (key : ℤ) (given old : Row) {library : Lib
 faithful_update class key given old {library} {reads} {before} {after} finds writes = operation_found (λ found. update_where found class key given) finds (record {
   from = λ base held S ordered is. record {
     answers = refl;
-    reaches = cells_changed library S (with_objects S (write_object S.objects class key (changed_row given old))) (object_cell class key) (Some (row_value (changed_row given old))) base before after (write_changes library S class key (changed_row given old)) writes is;
+    reaches = cells_changed library S (with_objects S (write_object S.objects class key (changed_row given old))) (object_cell class key)
+        (Some (row_value (changed_row given old))) base before after (write_changes library S class key (changed_row given old)) writes is;
     ordered = write_ordered library S class key (changed_row given old) ordered;
   };
 })
@@ -107,7 +110,8 @@ created_as : (level : Level) (class : ℕ) (key : ℤ) (new : Row) (found : Opti
 created_as level class key new None S = refl
 created_as level class key new (Some old) S = refl
 
-updated_as : (level : Level) (class : ℕ) (key : ℤ) (given : Row) (found : Option Row) (S : State) → updated_if_present level class key given found S ≡ performed level (update_where found class key given S)
+updated_as : (level : Level) (class : ℕ) (key : ℤ) (given : Row) (found : Option Row) (S : State)
+    → updated_if_present level class key given found S ≡ performed level (update_where found class key given S)
 updated_as level class key given None S = refl
 updated_as level class key given (Some old) S = refl
 
@@ -126,7 +130,8 @@ module _ (level : Level) (run : State → Operated Primitive) (work : Work) (sam
   }
 
   -- an operation that succeeds is followed by the signal of its event
-  made : {reads more : List Read} {w0 w1 w2 : Changes} {p : Primitive} {a : Answer} → Grows reads more → FaithfulOperation library run reads w0 w1 (Ok p) → FaithfulWork library (signal_in level p) more w1 w2 a
+  made : {reads more : List Read} {w0 w1 w2 : Changes} {p : Primitive} {a : Answer} → Grows reads more → FaithfulOperation library run reads w0 w1 (Ok p)
+      → FaithfulWork library (signal_in level p) more w1 w2 a
       → FaithfulWork library work more w0 w2 (followed (tells (without_detachments (operation_items p))) a)
   made {reads} {more} {w0} {w1} {w2} {p} {a} grows q h = record {
     from = λ base held S ordered is.
@@ -134,7 +139,8 @@ module _ (level : Level) (run : State → Operated Primitive) (work : Work) (sam
         let items : FaithfulWork library (with_items (operation_items p)) more w1 w1 (tells (without_detachments (operation_items p))) =
         record { from = λ base held S ordered is. record { answers = refl; reaches = is; ordered = ordered } } in
         let then_signal = faithful_then (with_items (operation_items p)) (signal_in level p) refl (Grows-same more) items h in
-        subst (λ (x : Course). LeadsTo library (answer_of x) x.state (followed (tells (without_detachments (operation_items p))) a) (over base w2)) (sym (same S ∙ ap (λ o. perform o level (run S).state) first.answers))
+        subst (λ (x : Course). LeadsTo library (answer_of x) x.state (followed (tells (without_detachments (operation_items p))) a) (over base w2))
+        (sym (same S ∙ ap (λ o. perform o level (run S).state) first.answers))
         (then_signal.from base held (run S).state first.ordered first.reaches);
   }
 
@@ -142,25 +148,29 @@ pub faithful_create_refused : (level : Level) (class : ℕ) (key : ℤ) (new : R
     → FaithfulOperation library (create_object class key new) reads before after (Err c)
     → FaithfulWork library (λ S. created_if_absent level class key new (find_object S.objects class key) S) reads before after (ended (abort_by c))
 faithful_create_refused level class key new p =
-    refused level (create_object class key new) (λ S. created_if_absent level class key new (find_object S.objects class key) S) (λ S. created_as level class key new (find_object S.objects class key) S) p
+    refused level (create_object class key new) (λ S. created_if_absent level class key new (find_object S.objects class key) S)
+    (λ S. created_as level class key new (find_object S.objects class key) S) p
 
 pub faithful_create_made : (level : Level) (class : ℕ) (key : ℤ) (new : Row) {library : Library} {reads more : List Read} {w0 w1 w2 : Changes} {p : Primitive} {a : Answer} → Grows reads more
     → FaithfulOperation library (create_object class key new) reads w0 w1 (Ok p) → FaithfulWork library (signal_in level p) more w1 w2 a
     → FaithfulWork library (λ S. created_if_absent level class key new (find_object S.objects class key) S) more w0 w2 (followed (tells (without_detachments (operation_items p))) a)
 faithful_create_made level class key new grows p h =
-    made level (create_object class key new) (λ S. created_if_absent level class key new (find_object S.objects class key) S) (λ S. created_as level class key new (find_object S.objects class key) S) grows p h
+    made level (create_object class key new) (λ S. created_if_absent level class key new (find_object S.objects class key) S)
+    (λ S. created_as level class key new (find_object S.objects class key) S) grows p h
 
 pub faithful_update_refused : (level : Level) (class : ℕ) (key : ℤ) (given : Row) {library : Library} {reads : List Read} {before after : Changes} {c : Cause}
     → FaithfulOperation library (update_object class key given) reads before after (Err c)
     → FaithfulWork library (λ S. updated_if_present level class key given (find_object S.objects class key) S) reads before after (ended (abort_by c))
 faithful_update_refused level class key given p =
-    refused level (update_object class key given) (λ S. updated_if_present level class key given (find_object S.objects class key) S) (λ S. updated_as level class key given (find_object S.objects class key) S) p
+    refused level (update_object class key given) (λ S. updated_if_present level class key given (find_object S.objects class key) S)
+    (λ S. updated_as level class key given (find_object S.objects class key) S) p
 
 pub faithful_update_made : (level : Level) (class : ℕ) (key : ℤ) (given : Row) {library : Library} {reads more : List Read} {w0 w1 w2 : Changes} {p : Primitive} {a : Answer} → Grows reads more
     → FaithfulOperation library (update_object class key given) reads w0 w1 (Ok p) → FaithfulWork library (signal_in level p) more w1 w2 a
     → FaithfulWork library (λ S. updated_if_present level class key given (find_object S.objects class key) S) more w0 w2 (followed (tells (without_detachments (operation_items p))) a)
 faithful_update_made level class key given grows p h =
-    made level (update_object class key given) (λ S. updated_if_present level class key given (find_object S.objects class key) S) (λ S. updated_as level class key given (find_object S.objects class key) S) grows p h
+    made level (update_object class key given) (λ S. updated_if_present level class key given (find_object S.objects class key) S)
+    (λ S. updated_as level class key given (find_object S.objects class key) S) grows p h
 
 pub faithful_delete_refused : (level : Level) (class : ℕ) (key : ℤ) {library : Library} {reads : List Read} {before after : Changes} {c : Cause}
     → FaithfulOperation library (delete_object class key) reads before after (Err c)
@@ -219,7 +229,8 @@ module _ (op : RuleOperation) (n : ℕ) {library : Library} {reads : List Read} 
     from = λ base held S ordered at.
         let here : new_status op (rule_state S n).status ≡ Ok None = ap (new_status op) (finds.from base held S ordered at) ∙ is in
         subst (λ o. LeadsTo library (set_where o n S).outcome (set_where o n S).state (Ok tt) (over base writes)) (sym (rule_outcome op (rule_state S n) (Ok None) here))
-        (subst (λ T. LeadsTo library (set_where (Ok (rule_state S n)) n S).outcome T (Ok tt) (over base writes)) (sym (with_rule-same S n)) (record { answers = refl; reaches = at; ordered = ordered }));
+        (subst (λ T. LeadsTo library (set_where (Ok (rule_state S n)) n S).outcome T (Ok tt) (over base writes)) (sym (with_rule-same S n))
+        (record { answers = refl; reaches = at; ordered = ordered }));
   }
 
   changed_to : {before after : Changes} {s : Status} (t : Status) → Finds library (λ S. (rule_state S n).status) reads before s → new_status op s ≡ Ok (Some t)
@@ -233,7 +244,8 @@ module _ (op : RuleOperation) (n : ℕ) {library : Library} {reads : List Read} 
   }
 
   -- a new status, and a detector with an empty past if the event looks back and the rule becomes enabled
-  pub faithful_rule_changed : {before after : Changes} {s : Status} (t : Status) → n < length library.rules → Finds library (λ S. (rule_state S n).status) reads before s → new_status op s ≡ Ok (Some t)
+  pub faithful_rule_changed : {before after : Changes} {s : Status} (t : Status) → n < length library.rules → Finds library (λ S. (rule_state S n).status) reads before s
+      → new_status op s ≡ Ok (Some t)
       → after ≡ with_change (with_change before (rule_cell n) (Some (status_in t))) (detector_cell n) (Some (knowledge_in (rule_at library n) t (with_status t)))
       → FaithfulOperation library (set_rule op n) reads before after (Ok tt)
   faithful_rule_changed {before} {after} t below finds is writes =
@@ -264,7 +276,8 @@ finds_unknown n past = record {
 -- ---- the statements on rules
 
 set_as : (op : RuleOperation) (n : ℕ) (o : Outcome RuleState) (S : State)
-    → with_value o (λ r S'. with_items (operation (rule_op op n) no_items) (with_rule S' n r)) S ≡ with_value (set_where o n S).outcome (λ _. with_items (operation (rule_op op n) no_items)) (set_where o n S).state
+    → with_value o (λ r S'. with_items (operation (rule_op op n) no_items) (with_rule S' n r)) S ≡ with_value (set_where o n S).outcome
+    (λ _. with_items (operation (rule_op op n) no_items)) (set_where o n S).state
 set_as op n (Err c) S = refl
 set_as op n (Ok r) S = refl
 

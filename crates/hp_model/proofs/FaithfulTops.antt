@@ -6,10 +6,12 @@ use Rattle.hp_model.specs.State.{State}
 use Rattle.hp_model.specs.Tree.{Task, without_detachments}
 use Rattle.hp_model.specs.Transactions.{Detached, End, done, abort_by, veto_by, Course, Work, drained, closed_by}
 use Rattle.hp_model.specs.Firing.{Fire, siblings, course_of, fire_task}
-use Rattle.hp_model.specs.Cascade.{Unit, now_in, unit_work, task_work, most_rounds, next_round, rounds, top_course, top, Generation, alone, generation, due, Cascade, before_cascade, cascade, transactions_of, TransactionReport, transaction_report, time_of, veto_end}
+use Rattle.hp_model.specs.Cascade.{Unit, now_in, unit_work, task_work, most_rounds, next_round, rounds, top_course, top, Generation, alone, generation, due, Cascade}
+use Rattle.hp_model.specs.Cascade.{before_cascade, cascade, transactions_of, TransactionReport, transaction_report, time_of, veto_end}
 use Rattle.hp_model.specs.Cells.{Changes, over, Read}
 use Rattle.hp_model.specs.Soundness.{Answer, answer_of, FiringAnswer, LeadsTo}
-use Rattle.hp_model.specs.Answers.{FaithfulWork, FaithfulFiring, SiblingsAnswer, FaithfulSiblings, followed, kept, group_answer, drained_answer, is_settled, TopAnswer, top_answer, closing_top, FaithfulTop, GenerationAnswer, generation_answer, FaithfulGeneration, reported, cascade_answer, FaithfulCascade, FaithfulUnit}
+use Rattle.hp_model.specs.Answers.{FaithfulWork, FaithfulFiring, SiblingsAnswer, FaithfulSiblings, followed, kept, group_answer, drained_answer, is_settled, TopAnswer, top_answer}
+use Rattle.hp_model.specs.Answers.{closing_top, FaithfulTop, GenerationAnswer, generation_answer, FaithfulGeneration, reported, cascade_answer, FaithfulCascade, FaithfulUnit}
 use Rattle.hp_model.proofs.Faithful.{Grows, Grows-same, Grows-then, held_before, joined_answer, closed_cells, closed_ordered}
 use Rattle.hp_model.proofs.FaithfulFirings.{course_answer}
 
@@ -37,7 +39,8 @@ module _ (library : Library) (fire : Fire) (whole : Work) (w0 : Changes) where
     pub is : FaithfulWork library work reads w0 now so_far
 
   pub rounds_more : {left : ℕ} {reads more : List Read} {now after : Changes} {a : Answer} {g : SiblingsAnswer} (t : Task) (ts : List Task) → a.end ≡ done → a.queued ≡ t ∷ ts
-      → Grows reads more → Rounds (suc left) reads now a → FaithfulSiblings library (siblings fire true (t ∷ ts)) more now after g → Rounds left more after (followed (drained_answer a) (group_answer g))
+      → Grows reads more → Rounds (suc left) reads now a → FaithfulSiblings library (siblings fire true (t ∷ ts)) more now after g
+      → Rounds left more after (followed (drained_answer a) (group_answer g))
   rounds_more {left} {reads} {more} {now} {after} {a} {g} t ts is_end are grows so_far p = record {
     work = λ S. next_round fire (so_far.work S).end (so_far.work S).queued (so_far.work S);
     same = so_far.same;
@@ -48,7 +51,8 @@ module _ (library : Library) (fire : Fire) (whole : Work) (w0 : Changes) where
           let rest = p.from base held c.state first.ordered first.reaches in
           let is_done : c.end ≡ done = ap (λ (x : Answer). x.end) first.answers ∙ is_end in
           let queue : c.queued ≡ t ∷ ts = ap (λ (x : Answer). x.queued) first.answers ∙ are in
-          subst (λ (x : End × List Task). LeadsTo library (answer_of (next_round fire x.0 x.1 c)) (next_round fire x.0 x.1 c).state (round_answer a g) (over base after)) (λ i. (sym is_done i, sym queue i))
+          subst (λ (x : End × List Task). LeadsTo library (answer_of (next_round fire x.0 x.1 c)) (next_round fire x.0 x.1 c).state (round_answer a g) (over base after))
+          (λ i. (sym is_done i, sym queue i))
           (record {
             answers =
                 joined_answer (drained c) (course_of (siblings fire true (t ∷ ts) c.state))
@@ -113,7 +117,8 @@ faithful_task_work t p = record {
 
 -- ---- generations
 
-pub faithful_no_generation : {library : Library} {reads : List Read} {writes : Changes} → FaithfulGeneration library (generation library []) reads writes writes (record { transactions = []; detached = [] })
+pub faithful_no_generation : {library : Library} {reads : List Read} {writes : Changes}
+    → FaithfulGeneration library (generation library []) reads writes writes (record { transactions = []; detached = [] })
 faithful_no_generation = record { from = λ base held S ordered is. record { answers = refl; reaches = is; ordered = ordered } }
 
 abbrev generation_with : Task → TopAnswer → GenerationAnswer → GenerationAnswer
@@ -145,7 +150,8 @@ module _ (library : Library) (whole : List Task) (w0 : Changes) where
         (c.by most after (record { transactions = reported (Some t) a ∷ g.transactions; detached = a.detached ++ g.detached }) (Grows-then grows grows') (faithful_generation t ts grows' p q));
   }
 
-  pub generation_end : {reads : List Read} {w1 : Changes} {so_far : GenerationAnswer} → GenerationCompletes [] reads w1 so_far → FaithfulGeneration library (generation library whole) reads w0 w1 so_far
+  pub generation_end : {reads : List Read} {w1 : Changes} {so_far : GenerationAnswer} → GenerationCompletes [] reads w1 so_far
+      → FaithfulGeneration library (generation library whole) reads w0 w1 so_far
   generation_end {reads} {w1} {so_far} c =
       subst (λ x. FaithfulGeneration library (generation library whole) reads w0 w1 x)
       (λ i. record { transactions = append-nil so_far.transactions i; detached = append-nil so_far.detached i })
@@ -171,7 +177,8 @@ follows library n run {reads} {more} {w0} {w1} {w2} {g} {rest} grows p q = recor
   from = λ base held S ordered is.
       let first = p.from base (held_before grows base held) S ordered is in
       let after = q.from base held (run S).state first.ordered first.reaches in
-      subst (λ (ds : List Detached). LeadsTo library (cascade_answer (before_cascade (run S) (cascade n library (due ds) (run S).state))) (cascade n library (due ds) (run S).state).state (g.transactions ++ rest) (over base w2))
+      subst (λ (ds : List Detached). LeadsTo library (cascade_answer (before_cascade (run S) (cascade n library (due ds) (run S).state)))
+      (cascade n library (due ds) (run S).state).state (g.transactions ++ rest) (over base w2))
       (sym (ap (λ (x : GenerationAnswer). x.detached) first.answers))
       (record {
         answers =
@@ -206,7 +213,8 @@ module _ (library : Library) (whole : State → Cascade) (w0 : Changes) where
   cascade_end {left} {reads} {w1} {so_far} c =
       subst (λ x. FaithfulCascade library whole reads w0 w1 x) (append-nil so_far) (c.by reads w1 [] (Grows-same reads) (faithful_no_cascade left))
 
-  pub cascade_over : {tasks : List Task} {reads : List Read} {w1 : Changes} {so_far : List TransactionReport} → CascadeCompletes 0 tasks reads w1 so_far → FaithfulCascade library whole reads w0 w1 so_far
+  pub cascade_over : {tasks : List Task} {reads : List Read} {w1 : Changes} {so_far : List TransactionReport} → CascadeCompletes 0 tasks reads w1 so_far
+      → FaithfulCascade library whole reads w0 w1 so_far
   cascade_over {tasks} {reads} {w1} {so_far} c =
       subst (λ x. FaithfulCascade library whole reads w0 w1 x) (append-nil so_far) (c.by reads w1 [] (Grows-same reads) (faithful_cascade_over tasks))
 

@@ -9,17 +9,24 @@ use Rattle.hp_model.specs.Occurrences.{Primitive, created, updated, deleted, sig
 use Rattle.hp_model.specs.Expressions.{value_of}
 use Rattle.hp_model.specs.Events.{occurrence_of}
 use Rattle.hp_model.specs.Conditions.{Answers, answer, let_of}
-use Rattle.hp_model.specs.Rules.{Coupling, immediate, deferred, separate, dependent, exclusive, is_immediate, Statement, create, update, delete, signal, emit, when, each, for_answer, with_object, subtransaction, let_value, abort, veto, veto_with, on_rule, fire, Body, empty, ◌then◌, Library, Rule, class_at}
+use Rattle.hp_model.specs.Rules.{Coupling, immediate, deferred, separate, dependent, exclusive, is_immediate, Statement, create, update, delete, signal, emit, when, each}
+use Rattle.hp_model.specs.Rules.{for_answer, with_object, subtransaction, let_value, abort, veto, veto_with, on_rule, fire, Body, empty, ◌then◌, Library, Rule, class_at}
 use Rattle.hp_model.specs.State.{State, RuleState, object_fits, find_object, rule_state, with_rule, with_objects, extended, Status, absent, enabled, disabled, IsFit}
 use Rattle.hp_model.specs.Tree.{Task, Node, Operation, create_op, update_op, delete_op, rule_op, no_items, operation, emission, apply, sub_node}
-use Rattle.hp_model.specs.Transactions.{Detached, End, done, abort_by, veto_by, Course, Work, ends, joined, after_end, then_do, with_value, for_each, with_items, survivor_by, survivors, closed_by, closed, placed, detached_of, unreleased}
-use Rattle.hp_model.specs.Firing.{Firing, Fire, after_firing, siblings, Siblings, course_of, Level, start, triggered, signal_in, Context, with_row, with_let, operated, created_if_absent, updated_if_present, deleted_if_present, vetoes, nested, sub_by, choose, run_statement, run_body, changed_row, made_row, checked_kinds, keyed_row, integer_value, boolean_value, values_of, answer_named, named_object, operated_rule, fired_task, start_fired, triggered_by, task_if, triggered_from}
+use Rattle.hp_model.specs.Transactions.{Detached, End, done, abort_by, veto_by, Course, Work, ends, joined, after_end, then_do, with_value, for_each, with_items, survivor_by}
+use Rattle.hp_model.specs.Transactions.{survivors, closed_by, closed, placed, detached_of, unreleased}
+use Rattle.hp_model.specs.Firing.{Firing, Fire, after_firing, siblings, Siblings, course_of, Level, start, triggered, signal_in, Context, with_row, with_let, operated}
+use Rattle.hp_model.specs.Firing.{created_if_absent, updated_if_present, deleted_if_present, vetoes, nested, sub_by, choose, run_statement, run_body, changed_row, made_row}
+use Rattle.hp_model.specs.Firing.{checked_kinds, keyed_row, integer_value, boolean_value, values_of, answer_named, named_object, operated_rule, fired_task, start_fired}
+use Rattle.hp_model.specs.Firing.{triggered_by, task_if, triggered_from}
 use Rattle.hp_model.specs.Ranges.{expression_fits, assignments_fit, aggregate_fits, statement_fits, body_fits, IsFitLibrary}
 pub use Rattle.hp_model.specs.Fitting.{StepFits, TaskFits}
 use Rattle.hp_model.proofs.Induction.{firing_course}
-use Rattle.hp_model.proofs.FitValues.{Gives, Gives-any, each_to, each_append, each_filter, each_map, each_found, ValueFits, KeyedFits, RowsFit, PrimitiveFits, OptionFits, EnvironmentFits, AnswersFit, values_give, answer_gives, bound_fits, holding_fits, let_gives}
+use Rattle.hp_model.proofs.FitValues.{Gives, Gives-any, each_to, each_append, each_filter, each_map, each_found, ValueFits, KeyedFits, RowsFit, PrimitiveFits, OptionFits}
+use Rattle.hp_model.proofs.FitValues.{EnvironmentFits, AnswersFit, values_give, answer_gives, bound_fits, holding_fits, let_gives}
 use Rattle.hp_model.proofs.FitRows.{made_gives, checked_gives, ChangesFit, object_changed, key_gives, keyed_gives, object_gives}
-use Rattle.hp_model.proofs.FitStates.{found_fit, PastFits, objects_of_fit, pasts_of_fit, extended_fits, with_rule_fits, rule_state_fits, operated_rule_gives, OperationFits, operation_fits, occurrence_fits}
+use Rattle.hp_model.proofs.FitStates.{found_fit, PastFits, objects_of_fit, pasts_of_fit, extended_fits, with_rule_fits, rule_state_fits, operated_rule_gives, OperationFits}
+use Rattle.hp_model.proofs.FitStates.{operation_fits, occurrence_fits}
 
 -- ---- what fits
 
@@ -69,7 +76,8 @@ module _ (library : Library) where
   pub then_do_fits : (c : Course) (next : Work) → CourseFits library c → WorkFits library next → CourseFits library (then_do c next)
   then_do_fits c next h k = after_end_fits c.end c next h k
 
-  with_value_fits : {A : Type 0} (P : A → Type 0) (o : Outcome A) (next : A → Work) (S : State) → IsFit library S → Gives P o → ((v : A) → P v → CourseFits library (next v S)) → CourseFits library (with_value o next S)
+  with_value_fits : {A : Type 0} (P : A → Type 0) (o : Outcome A) (next : A → Work) (S : State) → IsFit library S → Gives P o → ((v : A) → P v → CourseFits library (next v S))
+      → CourseFits library (with_value o next S)
   with_value_fits P (Err c) next S fit gives k = ends_fits (abort_by c) S fit
   with_value_fits P (Ok v) next S fit gives k = k v (gives.fact v refl)
 
@@ -103,7 +111,8 @@ module _ (library : Library) where
 
   -- ---- siblings and signals
 
-  after_firing_fits : (stops : Bool) (v : Option Veto) (f : Firing) (rest : State → Siblings) → CourseFits library (firing_course f) → WorkFits library (λ S. course_of (rest S)) → CourseFits library (course_of (after_firing stops v f rest))
+  after_firing_fits : (stops : Bool) (v : Option Veto) (f : Firing) (rest : State → Siblings) → CourseFits library (firing_course f) → WorkFits library (λ S. course_of (rest S))
+      → CourseFits library (course_of (after_firing stops v f rest))
   after_firing_fits true (Some r) f rest h k = joined_fits (firing_course f) (ends (abort_by (vetoed r)) f.state) h (ends_fits (abort_by (vetoed r)) f.state h.state)
   after_firing_fits true None f rest h k = joined_fits (firing_course f) (course_of (rest f.state)) h (k f.state h.state)
   after_firing_fits false v f rest h k = joined_fits (firing_course f) (course_of (rest f.state)) h (k f.state h.state)
@@ -119,16 +128,19 @@ module _ (library : Library) where
       then_do_fits (placed (t ∷ ts) S) (λ S'. course_of (siblings f true (filter (λ (u : Task). is_immediate u.place) (t ∷ ts)) S')) (placed_fits (t ∷ ts) h S fit)
       (siblings_fit f true (filter (λ (u : Task). is_immediate u.place) (t ∷ ts)) fires (each_filter (TaskFits library) (λ (u : Task). is_immediate u.place) (t ∷ ts) h))
 
-  occurred_fits : (level : Level) (n : ℕ) (rule : Rule) (o : Option Occurrence) (ts : List Task) → OptionFits library o → TasksFit library ts → TasksFit library (cons_option (option_map (triggered_by level n rule) o) ts)
+  occurred_fits : (level : Level) (n : ℕ) (rule : Rule) (o : Option Occurrence) (ts : List Task) → OptionFits library o → TasksFit library ts
+      → TasksFit library (cons_option (option_map (triggered_by level n rule) o) ts)
   occurred_fits level n rule None ts h k = k
   occurred_fits level n rule (Some o) ts h k = ((tt, h), k)
 
-  status_fits : (level : Level) (n : ℕ) (rule : Rule) (status : Status) (past : History) (ts : List Task) → AllByRecursion (PrimitiveFits library) past → TasksFit library ts → TasksFit library (cons_option (task_if status level n rule past) ts)
+  status_fits : (level : Level) (n : ℕ) (rule : Rule) (status : Status) (past : History) (ts : List Task) → AllByRecursion (PrimitiveFits library) past
+      → TasksFit library ts → TasksFit library (cons_option (task_if status level n rule past) ts)
   status_fits level n rule absent past ts h k = k
   status_fits level n rule enabled past ts h k = occurred_fits level n rule (occurrence_of rule.event past) ts (occurrence_fits library rule.event past h) k
   status_fits level n rule disabled past ts h k = k
 
-  triggered_from_fit : (level : Level) (n : ℕ) (rules : List Rule) (rs : List RuleState) → AllByRecursion (PastFits library) rs → TasksFit library (filter_map (λ t. t) (triggered_from level n rules rs))
+  triggered_from_fit : (level : Level) (n : ℕ) (rules : List Rule) (rs : List RuleState) → AllByRecursion (PastFits library) rs
+      → TasksFit library (filter_map (λ t. t) (triggered_from level n rules rs))
   triggered_from_fit level n [] rs h = tt
   triggered_from_fit level n (rule ∷ rules) [] h = tt
   triggered_from_fit level n (rule ∷ rules) (r ∷ rs) h =
@@ -203,25 +215,31 @@ module _ (library : Library) where
 
   module _ (known : IsFitLibrary library) (now depth : ℕ) (below : Option Fire) (fires : BelowFits library below) where
     mutual
-      pub statement_run_fits : (s : Statement) (context : Context) → IsTrue (statement_fits (length library.classes) s) → ContextFits library context → WorkFits library (run_statement s (at_level library now depth below) context)
+      pub statement_run_fits : (s : Statement) (context : Context) → IsTrue (statement_fits (length library.classes) s) → ContextFits library context
+          → WorkFits library (run_statement s (at_level library now depth below) context)
       statement_run_fits (create class key pairs) context h env S fit =
           let within = and_parts (nat_lt class (length library.classes)) (expression_fits key && assignments_fit pairs) h in
           let parts = and_parts (expression_fits key) (assignments_fit pairs) within.1 in
           with_value_fits library (λ (r : KeyedRow). IsTrue (fits_64 r.key) × IsTrue (row_fits (class_at library class).fields r.row))
-          (keyed_row context.environment key pairs (made_row (class_at library class).fields)) (λ r. created_if_absent (at_level library now depth below) class r.key r.row (find_object S.objects class r.key)) S fit
-          (keyed_gives library context.environment env.0 (λ row. IsTrue (row_fits (class_at library class).fields row)) key pairs (made_row (class_at library class).fields) parts.0 parts.1 (λ given hgiven. made_gives (class_at library class).fields given hgiven))
+          (keyed_row context.environment key pairs (made_row (class_at library class).fields))
+          (λ r. created_if_absent (at_level library now depth below) class r.key r.row (find_object S.objects class r.key)) S fit
+          (keyed_gives library context.environment env.0 (λ row. IsTrue (row_fits (class_at library class).fields row)) key pairs (made_row (class_at library class).fields)
+          parts.0 parts.1 (λ given hgiven. made_gives (class_at library class).fields given hgiven))
           (λ r hr. created_fit now depth below class r.key r.row (find_object S.objects class r.key) fires (created_object class r within.0 hr) S fit)
       statement_run_fits (update class key pairs) context h env S fit =
           let parts = and_parts (expression_fits key) (assignments_fit pairs) h in
           with_value_fits library (λ (r : KeyedRow). IsTrue (fits_64 r.key) × ChangesFit (class_at library class).fields r.row)
-          (keyed_row context.environment key pairs (checked_kinds (class_at library class).fields)) (λ r. updated_if_present (at_level library now depth below) class r.key r.row (find_object S.objects class r.key)) S fit
-          (keyed_gives library context.environment env.0 (ChangesFit (class_at library class).fields) key pairs (checked_kinds (class_at library class).fields) parts.0 parts.1 (λ given hgiven. checked_gives (class_at library class).fields given hgiven))
+          (keyed_row context.environment key pairs (checked_kinds (class_at library class).fields))
+          (λ r. updated_if_present (at_level library now depth below) class r.key r.row (find_object S.objects class r.key)) S fit
+          (keyed_gives library context.environment env.0 (ChangesFit (class_at library class).fields) key pairs (checked_kinds (class_at library class).fields)
+          parts.0 parts.1 (λ given hgiven. checked_gives (class_at library class).fields given hgiven))
           (λ r hr. updated_fit now depth below class r.key r.row (find_object S.objects class r.key) fires
           (λ old is.
           let here = found_fit library class r.key S.objects old (objects_of_fit library S fit) is in
           (here, object_changed library class r.key r.row old known.fields_differ hr.1 here)) S fit)
       statement_run_fits (delete class key) context h env S fit =
-          with_value_fits library (λ z. IsTrue (fits_64 z)) (integer_value context.environment key) (λ k. deleted_if_present (at_level library now depth below) class k (find_object S.objects class k)) S fit
+          with_value_fits library (λ z. IsTrue (fits_64 z)) (integer_value context.environment key)
+          (λ k. deleted_if_present (at_level library now depth below) class k (find_object S.objects class k)) S fit
           (key_gives library context.environment env.0 key h)
           (λ k hk. deleted_fit now depth below class k (find_object S.objects class k) fires (λ old is. found_fit library class k S.objects old (objects_of_fit library S fit) is) S fit)
       statement_run_fits (signal name arguments) context h env S fit =
@@ -234,13 +252,15 @@ module _ (library : Library) where
       statement_run_fits (when e then_body else_body) context h env S fit =
           let parts = and_parts (expression_fits e) (body_fits (length library.classes) then_body && body_fits (length library.classes) else_body) h in
           let bodies = and_parts (body_fits (length library.classes) then_body) (body_fits (length library.classes) else_body) parts.1 in
-          with_value_fits library (λ _. ⊤) (boolean_value context.environment e) (λ b. choose b (run_body then_body (at_level library now depth below) context) (run_body else_body (at_level library now depth below) context)) S fit
+          with_value_fits library (λ _. ⊤) (boolean_value context.environment e) (λ b. choose b (run_body then_body (at_level library now depth below) context)
+          (run_body else_body (at_level library now depth below) context)) S fit
           (Gives-any (boolean_value context.environment e))
           (λ b _. choose_fits b (run_body then_body (at_level library now depth below) context) (run_body else_body (at_level library now depth below) context)
           (body_run_fits then_body context bodies.0 env) (body_run_fits else_body context bodies.1 env) S fit)
       statement_run_fits (each x class predicate body) context h env S fit =
           let parts = and_parts (expression_fits predicate) (body_fits (length library.classes) body) h in
-          with_value_fits library RowsFit (answer context.environment x class predicate S.objects) (λ rows. for_each rows (λ r. run_body body (at_level library now depth below) (with_row x r context))) S fit
+          with_value_fits library RowsFit (answer context.environment x class predicate S.objects)
+          (λ rows. for_each rows (λ r. run_body body (at_level library now depth below) (with_row x r context))) S fit
           (answer_gives library context.environment x class predicate S.objects (objects_of_fit library S fit))
           (λ rows hrows. for_each_fits library KeyedFits rows (λ r. run_body body (at_level library now depth below) (with_row x r context)) hrows
           (λ r hr. body_run_fits body (with_row x r context) parts.1 (bound_fits library x r context.environment hr env.0, env.1)) S fit)
@@ -254,7 +274,8 @@ module _ (library : Library) where
           (λ r hr. body_run_fits body (with_row x r context) parts.1 (bound_fits library x r context.environment hr env.0, env.1) S fit)
       statement_run_fits (subtransaction body otherwise) context h env S fit =
           let bodies = and_parts (body_fits (length library.classes) body) (body_fits (length library.classes) otherwise) h in
-          sub_fits (run_body body (at_level library now depth below) context S).end S (run_body body (at_level library now depth below) context S) (run_body otherwise (at_level library now depth below) context) fit
+          sub_fits (run_body body (at_level library now depth below) context S).end S (run_body body (at_level library now depth below) context S)
+          (run_body otherwise (at_level library now depth below) context) fit
           (body_run_fits body context bodies.0 env S fit) (body_run_fits otherwise context bodies.1 env)
       statement_run_fits abort context h env S fit = ends_fits library (abort_by requested) S fit
       statement_run_fits (let_value x a body) context h env S fit =
@@ -271,8 +292,10 @@ module _ (library : Library) where
           (operated_rule_gives library op (rule_state S n) (rule_state_fits library S n fit)) (λ r hr. record { state = with_rule_fits library S n r hr fit; queued = tt; detached = tt })
       statement_run_fits (fire n) context h env S fit = fired_fits (rule_state S n).status now depth below n fires S fit
 
-      pub body_run_fits : (b : Body) (context : Context) → IsTrue (body_fits (length library.classes) b) → ContextFits library context → WorkFits library (run_body b (at_level library now depth below) context)
+      pub body_run_fits : (b : Body) (context : Context) → IsTrue (body_fits (length library.classes) b) → ContextFits library context
+          → WorkFits library (run_body b (at_level library now depth below) context)
       body_run_fits empty context h env S fit = ends_fits library done S fit
       body_run_fits (s then rest) context h env S fit =
           let parts = and_parts (statement_fits (length library.classes) s) (body_fits (length library.classes) rest) h in
-          then_do_fits library (run_statement s (at_level library now depth below) context S) (run_body rest (at_level library now depth below) context) (statement_run_fits s context parts.0 env S fit) (body_run_fits rest context parts.1 env)
+          then_do_fits library (run_statement s (at_level library now depth below) context S) (run_body rest (at_level library now depth below) context)
+          (statement_run_fits s context parts.0 env S fit) (body_run_fits rest context parts.1 env)

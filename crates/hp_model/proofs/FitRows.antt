@@ -12,7 +12,8 @@ use Rattle.hp_model.specs.Scopes.{field_names}
 use Rattle.hp_model.specs.State.{Objects, object_fits, find_object}
 use Rattle.hp_model.specs.Firing.{changed_row, of_kind, made_row, kind_in, checked_kinds, keyed_row, integer_value, named_object}
 use Rattle.hp_model.specs.Ranges.{expression_fits, assignments_fit}
-use Rattle.hp_model.proofs.FitValues.{Gives, Gives-value, Gives-then, Gives-if, Gives-or, each_found, ValueFits, RowFits, KeyedFits, EnvironmentFits, ObjectsFit, object_keyed, value_gives, assigned_give, integer_gives}
+use Rattle.hp_model.proofs.FitValues.{Gives, Gives-value, Gives-then, Gives-if, Gives-or, each_found, ValueFits, RowFits, KeyedFits, EnvironmentFits, ObjectsFit, object_keyed}
+use Rattle.hp_model.proofs.FitValues.{value_gives, assigned_give, integer_gives}
 use Rattle.hp_model.proofs.FitStates.{found_fit}
 
 same_name : (x : Name) → bytes_eq x x ≡ true
@@ -92,7 +93,8 @@ set_kind : (k l : Kind) (v : Value) → Some k ≡ Some l → OfKind l v → OfK
 set_kind k l v e h = let same : k ≡ l = cc in subst (λ j. OfKind j v) (sym same) h
 
 -- the value in a changed row
-new_value : (fields : List Field) (f : Field) (x : Name) (old : Value) (o : Option Value) → kind_in fields f.name ≡ Some f.kind → f.name ≡ x → ((v : Value) → o ≡ Some v → SetsFit fields x v) → OfKind f.kind old → OfKind f.kind (unwrap_or o old)
+new_value : (fields : List Field) (f : Field) (x : Name) (old : Value) (o : Option Value) → kind_in fields f.name ≡ Some f.kind → f.name ≡ x
+    → ((v : Value) → o ≡ Some v → SetsFit fields x v) → OfKind f.kind old → OfKind f.kind (unwrap_or o old)
 new_value fields f x old None is same sets h = h
 new_value fields f x old (Some v) is same sets h =
     let fit = sets v refl in
@@ -110,7 +112,8 @@ changed_each fields (f ∷ fs) given (v ∷ vs) kinds changes h =
     let w : Value = unwrap_or (lookup (bytes_eq v.0) given) v.1 in
     and_from (bytes_eq f.name v.0) _ named.0 (and_from (is_kind f.kind (kind_of w)) _ new.0 (and_from (value_fits w) _ new.1 (changed_each fields fs given vs kinds.1 changes more.1)))
 
-pub changed_fits : (fields : List Field) (given old : Row) → IsDistinct bytes_eq (field_names fields) → ChangesFit fields given → IsTrue (row_fits fields old) → IsTrue (row_fits fields (changed_row given old))
+pub changed_fits : (fields : List Field) (given old : Row) → IsDistinct bytes_eq (field_names fields) → ChangesFit fields given → IsTrue (row_fits fields old)
+    → IsTrue (row_fits fields (changed_row given old))
 changed_fits fields given old distinct changes h = changed_each fields fields given old (kinds_are fields distinct) changes h
 
 -- ---- classes
@@ -119,7 +122,8 @@ none_distinct : IsDistinct bytes_eq []
 unfolding IsDistinct
 none_distinct = tt
 
-pub fields_at : (classes : List ClassDef) (n : ℕ) → AllByRecursion (λ (c : ClassDef). IsDistinct bytes_eq (field_names c.fields)) classes → IsDistinct bytes_eq (field_names (slice_index_or classes n no_class).fields)
+pub fields_at : (classes : List ClassDef) (n : ℕ) → AllByRecursion (λ (c : ClassDef). IsDistinct bytes_eq (field_names c.fields)) classes
+    → IsDistinct bytes_eq (field_names (slice_index_or classes n no_class).fields)
 fields_at [] n h = none_distinct
 fields_at (c ∷ cs) zero h = h.0
 fields_at (c ∷ cs) (suc n) h = fields_at cs n h.1

@@ -12,9 +12,11 @@ use Rattle.std.specs.declared.cmp.Ordering.{Ordering}
 use Rattle.std.specs.declared.cmp.Ordering.TheVariants.{Less, Equal, Greater}
 use Rattle.hp_model.specs.Values.{Row}
 use Rattle.hp_model.specs.Occurrences.{Primitive, History, Occurrence, primitive_occurrence}
-use Rattle.hp_model.specs.Events.{Pattern, matches, Event, pattern_event, or_event, seq_event, closure_event, Occurs, occurrences, occurrences_since, joined, sequences, sequence_at, gathered, closed, closure_at, pattern_at, occurrence_of, total_count}
+use Rattle.hp_model.specs.Events.{Pattern, matches, Event, pattern_event, or_event, seq_event, closure_event, Occurs, occurrences, occurrences_since, joined, sequences}
+use Rattle.hp_model.specs.Events.{sequence_at, gathered, closed, closure_at, pattern_at, occurrence_of, total_count}
 use Rattle.hp_model.specs.Rules.{Library, RuleOperation, install, enable, disable, remove}
-use Rattle.hp_model.specs.State.{State, RuleState, Status, absent, enabled, disabled, Objects, ObjectName, object_name, compare_names, find_object, write_object, object_fits, primitive_fits, with_status, rule_state, with_objects, with_rule, extended_rule, extended, initial_state, IsOrdered, IsFit}
+use Rattle.hp_model.specs.State.{State, RuleState, Status, absent, enabled, disabled, Objects, ObjectName, object_name, compare_names, find_object, write_object, object_fits}
+use Rattle.hp_model.specs.State.{primitive_fits, with_status, rule_state, with_objects, with_rule, extended_rule, extended, initial_state, IsOrdered, IsFit}
 use Rattle.hp_model.specs.Cells.{Cell, object_cell, rule_cell, detector_cell}
 use Rattle.hp_model.specs.Tree.{Operation, create_op, update_op, delete_op, rule_op, apply}
 use Rattle.hp_model.specs.Firing.{operated_rule}
@@ -37,19 +39,23 @@ FitsAt library row (detector_cell n) = ⊤
 one_name : (class : ℕ) (key : ℤ) (name : ObjectName) → is_at (compare_names (object_name class key)) name ≡ true → object_cell class key ≡ object_cell name.class name.key
 one_name class key name h = exact_cell (object_cell class key) (object_cell name.class name.key) (sym (name_at class key name) ∙ h)
 
-written_choice : (library : Library) (class : ℕ) (key : ℤ) (row : Row) (o : ObjectName × Row) (os more : Objects) (r : Ordering) → (is_eq r ≡ true → object_cell class key ≡ object_cell o.0.class o.0.key)
+written_choice : (library : Library) (class : ℕ) (key : ℤ) (row : Row) (o : ObjectName × Row) (os more : Objects) (r : Ordering)
+    → (is_eq r ≡ true → object_cell class key ≡ object_cell o.0.class o.0.key)
     → IsTrue (object_fits library class key row) → ObjectFits library o → ObjectsFit library os → ObjectsFit library more
     → ObjectsFit library (match_ordering r ((object_name class key, row) ∷ o ∷ os) ((o.0, row) ∷ os) (o ∷ more))
 written_choice library class key row o os more Less same fit here there rest = (fit, (here, there))
 written_choice library class key row o os more Equal same fit here there rest = (subst (FitsAt library row) (same refl) fit, there)
 written_choice library class key row o os more Greater same fit here there rest = (here, rest)
 
-written_fit : (library : Library) (class : ℕ) (key : ℤ) (row : Row) (objects : Objects) → IsTrue (object_fits library class key row) → ObjectsFit library objects → ObjectsFit library (write_object objects class key row)
+written_fit : (library : Library) (class : ℕ) (key : ℤ) (row : Row) (objects : Objects) → IsTrue (object_fits library class key row) → ObjectsFit library objects
+    → ObjectsFit library (write_object objects class key row)
 written_fit library class key row [] fit h = (fit, tt)
 written_fit library class key row (o ∷ os) fit h =
-    written_choice library class key row o os (write_object os class key row) (compare_names (object_name class key) o.0) (one_name class key o.0) fit h.0 h.1 (written_fit library class key row os fit h.1)
+    written_choice library class key row o os (write_object os class key row) (compare_names (object_name class key) o.0) (one_name class key o.0) fit
+    h.0 h.1 (written_fit library class key row os fit h.1)
 
-removed_choice : (library : Library) (b : Bool) (o : ObjectName × Row) (os more : Objects) → ObjectFits library o → ObjectsFit library os → ObjectsFit library more → ObjectsFit library (cond b os (o ∷ more))
+removed_choice : (library : Library) (b : Bool) (o : ObjectName × Row) (os more : Objects) → ObjectFits library o → ObjectsFit library os → ObjectsFit library more
+    → ObjectsFit library (cond b os (o ∷ more))
 removed_choice library true o os more here there rest = there
 removed_choice library false o os more here there rest = (here, rest)
 
@@ -64,7 +70,8 @@ found_choice library class key o true found row same here rest e =
     subst (λ r. IsTrue (object_fits library class key r)) is (subst (FitsAt library o.1) (sym (same refl)) here)
 found_choice library class key o false found row same here rest e = rest e
 
-pub found_fit : (library : Library) (class : ℕ) (key : ℤ) (objects : Objects) (row : Row) → ObjectsFit library objects → find_object objects class key ≡ Some row → IsTrue (object_fits library class key row)
+pub found_fit : (library : Library) (class : ℕ) (key : ℤ) (objects : Objects) (row : Row) → ObjectsFit library objects → find_object objects class key ≡ Some row
+    → IsTrue (object_fits library class key row)
 found_fit library class key [] row h e = cc
 found_fit library class key (o ∷ os) row h e =
     found_choice library class key o (is_at (compare_names (object_name class key)) o.0) (find_object os class key) row (one_name class key o.0) h.0 (found_fit library class key os row h.1) e
@@ -98,12 +105,14 @@ fit_from library S ordered objects pasts = record {
   pasts_fit = each_past library S.rules pasts;
 }
 
-extended_past : (library : Library) (p : Primitive) (status : Status) (past : History) → PrimitiveFits library p → AllByRecursion (PrimitiveFits library) past → PastFits library (extended_rule p (record { status = status; past = past }))
+extended_past : (library : Library) (p : Primitive) (status : Status) (past : History) → PrimitiveFits library p → AllByRecursion (PrimitiveFits library) past
+    → PastFits library (extended_rule p (record { status = status; past = past }))
 extended_past library p absent past fit h = h
 extended_past library p enabled past fit h = (fit, h)
 extended_past library p disabled past fit h = h
 
-extended_pasts : (library : Library) (p : Primitive) (rs : List RuleState) → PrimitiveFits library p → AllByRecursion (PastFits library) rs → AllByRecursion (PastFits library) (map (extended_rule p) rs)
+extended_pasts : (library : Library) (p : Primitive) (rs : List RuleState) → PrimitiveFits library p → AllByRecursion (PastFits library) rs
+    → AllByRecursion (PastFits library) (map (extended_rule p) rs)
 extended_pasts library p [] fit h = tt
 extended_pasts library p (r ∷ rs) fit h = (extended_past library p r.status r.past fit h.0, extended_pasts library p rs fit h.1)
 
@@ -208,7 +217,8 @@ module _ (library : Library) where
   since_fit last event fits [] fit = tt
   since_fit last event fits (p ∷ h) fit =
       since_choice (is_some (last (p ∷ h))) (occurrences_since last event h ++ option_to_list (event (p ∷ h)))
-      (each_append (OccurrenceFits library) (occurrences_since last event h) (option_to_list (event (p ∷ h))) (since_fit last event fits h fit.1) (option_each library (event (p ∷ h)) (fits (p ∷ h) fit)))
+      (each_append (OccurrenceFits library) (occurrences_since last event h) (option_to_list (event (p ∷ h))) (since_fit last event fits h fit.1)
+      (option_each library (event (p ∷ h)) (fits (p ∷ h) fit)))
 
   joined_fit : (a b : Option Occurrence) → OptionFits library a → OptionFits library b → OptionFits library (joined a b)
   joined_fit (Some a) (Some b) h k = each_append (PrimitiveFits library) a.parts b.parts h k

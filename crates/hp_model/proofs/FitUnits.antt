@@ -7,18 +7,23 @@ use Rattle.std.specs.List.{AllByRecursion, list_all, slice_index_or, cons_option
 use Rattle.hp_model.specs.Values.{Name, NamedValues, Value, KeyedRow, Outcome, fits_64}
 use Rattle.hp_model.specs.Occurrences.{commit_reached, moment_reached}
 use Rattle.hp_model.specs.Expressions.{Environment, bound, holding}
-use Rattle.hp_model.specs.Conditions.{Answers, Findings, Verdict, satisfied, unsatisfied, faulty, answer, aggregated, verdict, if_answered, if_unanswered, if_valued, keeping, keeping_value, with_answers, with_values, with_findings}
+use Rattle.hp_model.specs.Conditions.{Answers, Findings, Verdict, satisfied, unsatisfied, faulty, answer, aggregated, verdict, if_answered, if_unanswered, if_valued, keeping}
+use Rattle.hp_model.specs.Conditions.{keeping_value, with_answers, with_values, with_findings}
 use Rattle.hp_model.specs.Rules.{Coupling, immediate, deferred, separate, dependent, exclusive, Entry, query_entry, no_entry, let_entry, Library, Rule, no_rule, rule_at}
 use Rattle.hp_model.specs.State.{State, Objects, IsFit}
 use Rattle.hp_model.specs.Tree.{Task, Step, condition_step, action_step, Node, sub_node, fire_node, act_node, with_action, with_later_action}
 use Rattle.hp_model.specs.Transactions.{Detached, End, done, abort_by, veto_by, Course, Work, then_do, drained, placed}
-use Rattle.hp_model.specs.Firing.{Fire, siblings, course_of, signal_in, run_action, follow, decide, take_step, below_limit, level_at, fire_task, deferring, action_course, action_context, action_task, task_environment}
-use Rattle.hp_model.specs.Cascade.{Unit, now_in, transaction, moment, no_context, unit_work, task_work, most_rounds, next_round, rounds, top_course, top, generation, due_by, due, cascade, run_unit, run_units}
+use Rattle.hp_model.specs.Firing.{Fire, siblings, course_of, signal_in, run_action, follow, decide, take_step, below_limit, level_at, fire_task, deferring, action_course}
+use Rattle.hp_model.specs.Firing.{action_context, action_task, task_environment}
+use Rattle.hp_model.specs.Cascade.{Unit, now_in, transaction, moment, no_context, unit_work, task_work, most_rounds, next_round, rounds, top_course, top, generation, due_by, due}
+use Rattle.hp_model.specs.Cascade.{cascade, run_unit, run_units}
 use Rattle.hp_model.specs.Ranges.{expression_fits, aggregate_fits, entry_fits, body_fits, rule_fits, unit_fits, IsFitLibrary}
 use Rattle.hp_model.proofs.Induction.{firing_course}
-use Rattle.hp_model.proofs.FitValues.{Gives, each_append, ValueFits, KeyedFits, HeldFits, RowsFit, OccurrenceFits, EnvironmentFits, ValuesFit, AnswersFit, FindingsFit, ObjectsFit, answer_gives, bound_fits, holding_fits, aggregated_gives}
+use Rattle.hp_model.proofs.FitValues.{Gives, each_append, ValueFits, KeyedFits, HeldFits, RowsFit, OccurrenceFits, EnvironmentFits, ValuesFit, AnswersFit, FindingsFit, ObjectsFit}
+use Rattle.hp_model.proofs.FitValues.{answer_gives, bound_fits, holding_fits, aggregated_gives}
 use Rattle.hp_model.proofs.FitStates.{objects_of_fit}
-use Rattle.hp_model.proofs.FitCourses.{StepFits, TaskFits, TasksFit, DetachedFit, CourseFits, WorkFits, FireFits, BelowFits, at_level, joined_fits, then_do_fits, closed_fits, placed_fits, siblings_fit, signal_fits, body_run_fits}
+use Rattle.hp_model.proofs.FitCourses.{StepFits, TaskFits, TasksFit, DetachedFit, CourseFits, WorkFits, FireFits, BelowFits, at_level, joined_fits, then_do_fits, closed_fits}
+use Rattle.hp_model.proofs.FitCourses.{placed_fits, siblings_fit, signal_fits, body_run_fits}
 
 -- ---- conditions and what they find
 
@@ -52,12 +57,14 @@ valued_fits x (Err c) next gives k = tt
 valued_fits x (Ok None) next gives k = tt
 valued_fits x (Ok (Some v)) next gives k = let h = gives.fact (Some v) refl in keeping_value_fits x v (next v) h (k v h)
 
-pub verdict_fits : (library : Library) (objects : Objects) (env : Environment) (es : List Entry) → IsTrue (list_all entry_fits es) → EnvironmentFits library env → ObjectsFit library objects → VerdictFits (verdict objects env es)
+pub verdict_fits : (library : Library) (objects : Objects) (env : Environment) (es : List Entry) → IsTrue (list_all entry_fits es) → EnvironmentFits library env
+    → ObjectsFit library objects → VerdictFits (verdict objects env es)
 verdict_fits library objects env [] k fit h = (tt, tt)
 verdict_fits library objects env (query_entry q ∷ es) k fit h =
     let parts = and_parts (expression_fits q.predicate) (list_all entry_fits es) k in
     answered_fits q.name (answer env q.name q.class q.predicate objects) (λ first. verdict objects (bound q.name first env) es)
-    (answer_gives library env q.name q.class q.predicate objects h) (λ first hfirst. verdict_fits library objects (bound q.name first env) es parts.1 (bound_fits library q.name first env hfirst fit) h)
+    (answer_gives library env q.name q.class q.predicate objects h) (λ first hfirst. verdict_fits library objects (bound q.name first env) es parts.1
+    (bound_fits library q.name first env hfirst fit) h)
 verdict_fits library objects env (no_entry q ∷ es) k fit h =
     let parts = and_parts (expression_fits q.predicate) (list_all entry_fits es) k in
     unanswered_fits (answer env q.name q.class q.predicate objects) (verdict objects env es) (verdict_fits library objects env es parts.1 fit h)
@@ -172,7 +179,8 @@ module _ (library : Library) (known : IsFitLibrary library) where
       (signal_fits library now depth (below_limit library (library.depth_limit - depth)) commit_reached (below_fits (library.depth_limit - depth)) refl))
 
   -- its state and what it detaches
-  top_fits : (now depth : ℕ) (work : Work) → WorkFits library work → (S : State) → IsFit library S → IsFit library (top library now depth work S).state × DetachedFit library (top library now depth work S).detached
+  top_fits : (now depth : ℕ) (work : Work) → WorkFits library work → (S : State) → IsFit library S → IsFit library (top library now depth work S).state
+      × DetachedFit library (top library now depth work S).detached
   top_fits now depth work h S fit =
       let c = top_course library now depth work S in
       let end = closed_fits library c.end S c sub_node done fit (top_course_fits now depth work h S fit) in (end.state, end.detached)

@@ -1,13 +1,18 @@
 -- Values of expressions, rows and answers of queries fit if the environment does.
-use Rattle.std.proofs.Common.{arith, ◌≡◌, refl, subst, ℕ, zero, suc, ◌-◌, ◌^◌, ◌<◌, ◌≤◌, ℤ, pos, negsuc, List, [], ◌∷◌, ◌++◌, length, map, filter, Option, None, Some, Bool, true, false, ◌&&◌, cond, IsTrue, nat_lt}
+use Rattle.std.proofs.Common.{arith, ◌≡◌, refl, subst, ℕ, zero, suc, ◌-◌, ◌^◌, ◌<◌, ◌≤◌, ℤ, pos, negsuc, List, [], ◌∷◌, ◌++◌, length, map, filter, Option, None, Some, Bool, true}
+use Rattle.std.proofs.Common.{false, ◌&&◌, cond, IsTrue, nat_lt}
 use Rattle.std.proofs.lemmas.Bool.{and_parts, and_from, ltb-true, lt-ltb}
 use Rattle.std.proofs.lemmas.Int.{rem_below}
 use Rattle.std.specs.Prelude.{⊤, Ok, Err, bytes_eq, slice_get, int_div, int_rem, neg_ℤ, unsigned_abs, if◌then◌else◌, min, unwrap_or, ◌+ℤ◌, ◌-ℤ◌, ◌*ℤ◌, not, ◌==◌}
 use Rattle.std.specs.List.{last_or, AllByRecursion, list_all}
 use Rattle.std.specs.Map.{lookup}
-use Rattle.hp_model.specs.Values.{Name, Field, kind_of, is_kind, row_fits, Value, integer, boolean, text, Row, KeyedRow, Cause, wrong_kind, overflow, divide_by_zero, no_parameter, missing, Outcome, ◌>>=◌, or_cause, fits_64, value_fits}
+use Rattle.hp_model.specs.Values.{Name, Field, kind_of, is_kind, row_fits, Value, integer, boolean, text, Row, KeyedRow, Cause, wrong_kind, overflow, divide_by_zero, no_parameter}
+use Rattle.hp_model.specs.Values.{missing, Outcome, ◌>>=◌, or_cause, fits_64, value_fits}
 use Rattle.hp_model.specs.Occurrences.{Primitive, created, updated, deleted, signalled, commit_reached, moment_reached, Occurrence}
-use Rattle.hp_model.specs.Expressions.{Arithmetic, plus, minus, times, quotient, remainder, Expression, constant, arithmetic, negated, inverted, both, either, compared, field_of, key_of, new_field, old_field, key_in, argument, time_of, occurrence_count, value_named, time_now, Comparison, less, greater, Environment, bound, holding, as_integer, as_boolean, in_range, calculate, compare, part_of, row_named, field_in, new_row, old_row, operation_key, argument_of, moment_of, count_in, value_of}
+use Rattle.hp_model.specs.Expressions.{Arithmetic, plus, minus, times, quotient, remainder, Expression, constant, arithmetic, negated, inverted, both, either, compared, field_of}
+use Rattle.hp_model.specs.Expressions.{key_of, new_field, old_field, key_in, argument, time_of, occurrence_count, value_named, time_now, Comparison, less, greater, Environment}
+use Rattle.hp_model.specs.Expressions.{bound, holding, as_integer, as_boolean, in_range, calculate, compare, part_of, row_named, field_in, new_row, old_row, operation_key}
+use Rattle.hp_model.specs.Expressions.{argument_of, moment_of, count_in, value_of}
 use Rattle.hp_model.specs.Conditions.{selected, answer, Merge, merged, added, preferred, row_count, key_after, present, aggregated, let_of}
 use Rattle.hp_model.specs.Rules.{Library, Assignment, Aggregate, count_over, sum_over, least_over, greatest_over, next_key, single, class_at}
 use Rattle.hp_model.specs.State.{Objects, ObjectName, rows_of, class_keys, object_fits}
@@ -142,7 +147,8 @@ integer_gives (text s) h = Gives-none wrong_kind
 
 -- what is read of a fit environment
 module _ (library : Library) (env : Environment) (fit : EnvironmentFits library env) where
-  parts_give : (o : Option Occurrence) → OptionFits library o → (i : ℕ) (p : Primitive) → part_of (record { occurrence = o; rows = env.rows; values = env.values; now = env.now }) i ≡ Ok p → PrimitiveFits library p
+  parts_give : (o : Option Occurrence) → OptionFits library o → (i : ℕ) (p : Primitive) → part_of (record { occurrence = o; rows = env.rows; values = env.values; now = env.now }) i ≡ Ok p
+      → PrimitiveFits library p
   parts_give None h i p e = cc
   parts_give (Some o) h i p e = (Gives-or {P = PrimitiveFits library} (slice_get o.parts i) no_parameter (λ x is. each_at (PrimitiveFits library) o.parts i x h is)).fact p e
 
@@ -291,7 +297,8 @@ rows_fit library class objects h =
     (filter (λ (o : ObjectName × Row). o.0.class == class) objects) (λ o fit. object_keyed library o.0.class o.0.key o.1 fit)
     (each_filter (λ (o : ObjectName × Row). IsTrue (object_fits library o.0.class o.0.key o.1)) (λ (o : ObjectName × Row). o.0.class == class) objects h)
 
-pub answer_gives : (library : Library) (env : Environment) (x : Name) (class : ℕ) (predicate : Expression) (objects : Objects) → ObjectsFit library objects → Gives RowsFit (answer env x class predicate objects)
+pub answer_gives : (library : Library) (env : Environment) (x : Name) (class : ℕ) (predicate : Expression) (objects : Objects) → ObjectsFit library objects
+    → Gives RowsFit (answer env x class predicate objects)
 answer_gives library env x class predicate objects h = selected_gives env x predicate (rows_of class objects) (rows_fit library class objects h)
 
 -- ---- aggregates
@@ -310,7 +317,8 @@ holding_fits library x v env h fit = (fit.0, fit.1, (h, fit.2))
 abbrev MergeFits : Merge → Type 0
 MergeFits merge = (o : Option Value) (v : Value) → HeldFits o → ValueFits v → Gives ValueFits (merge o v)
 
-module _ (library : Library) (env : Environment) (fit : EnvironmentFits library env) (merge : Merge) (merges : MergeFits merge) (x : Name) (predicate term : Expression) (term_fits : IsTrue (expression_fits term)) where
+module _ (library : Library) (env : Environment) (fit : EnvironmentFits library env) (merge : Merge) (merges : MergeFits merge) (x : Name) (predicate term : Expression)
+    (term_fits : IsTrue (expression_fits term)) where
   merged_step : (keep : Bool) (r : KeyedRow) (so_far : Option Value) → KeyedFits r → HeldFits so_far
       → Gives HeldFits (if keep then (value_of (bound x r env) term >>= λ w. merge so_far w >>= λ m. Ok (Some m)) else Ok so_far)
   merged_step true r so_far h k =
@@ -350,7 +358,8 @@ sum_fits : (o : Option Value) → HeldFits o → ValueFits (unwrap_or o (integer
 sum_fits None h = refl
 sum_fits (Some v) h = h
 
-pub aggregated_gives : (library : Library) (env : Environment) (objects : Objects) → EnvironmentFits library env → ObjectsFit library objects → (a : Aggregate) → IsTrue (aggregate_fits a) → Gives HeldFits (aggregated objects env a)
+pub aggregated_gives : (library : Library) (env : Environment) (objects : Objects) → EnvironmentFits library env → ObjectsFit library objects → (a : Aggregate)
+    → IsTrue (aggregate_fits a) → Gives HeldFits (aggregated objects env a)
 aggregated_gives library env objects fit h (count_over x class predicate) k =
     Gives-then (answer_gives library env x class predicate objects h) λ rows _. Gives-value (Some (row_count rows)) (count_fits rows)
 aggregated_gives library env objects fit h (sum_over x class predicate term) k =
@@ -370,5 +379,6 @@ held_gives : (o : Option Value) → HeldFits o → Gives ValueFits (or_cause o m
 held_gives None h = Gives-none missing
 held_gives (Some v) h = Gives-value v h
 
-pub let_gives : (library : Library) (env : Environment) (objects : Objects) → EnvironmentFits library env → ObjectsFit library objects → (a : Aggregate) → IsTrue (aggregate_fits a) → Gives ValueFits (let_of objects env a)
+pub let_gives : (library : Library) (env : Environment) (objects : Objects) → EnvironmentFits library env → ObjectsFit library objects → (a : Aggregate)
+    → IsTrue (aggregate_fits a) → Gives ValueFits (let_of objects env a)
 let_gives library env objects fit h a k = Gives-then (aggregated_gives library env objects fit h a k) λ o ho. held_gives o ho

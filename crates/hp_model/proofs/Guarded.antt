@@ -8,17 +8,27 @@ use Rattle.std.specs.List.{cons_option, list_all, AllByRecursion, slice_index_or
 use Rattle.std.specs.Option.{option_or}
 use Rattle.hp_model.specs.Values.{Veto, Outcome, Row, vetoed, Value, depth_exceeded, exists, missing, requested}
 use Rattle.hp_model.specs.Occurrences.{Primitive, created, updated, deleted, signalled, commit_reached, History, Occurrence, primitive_occurrence, no_occurrence}
-use Rattle.hp_model.specs.Events.{Event, pattern_event, or_event, seq_event, closure_event, Pattern, on_create, on_update, on_delete, on_signal, on_commit, at_moment, every_moment, matches, occurrence_of, joined, closed}
+use Rattle.hp_model.specs.Events.{Event, pattern_event, or_event, seq_event, closure_event, Pattern, on_create, on_update, on_delete, on_signal, on_commit, at_moment, every_moment}
+use Rattle.hp_model.specs.Events.{matches, occurrence_of, joined, closed}
 use Rattle.hp_model.specs.Expressions.{value_of}
 use Rattle.hp_model.specs.Conditions.{Findings, Verdict, satisfied, unsatisfied, faulty, answer, let_of, verdict}
-use Rattle.hp_model.specs.Rules.{Coupling, immediate, deferred, separate, dependent, exclusive, is_immediate, is_detached, Statement, create, update, delete, signal, emit, when, each, for_answer, with_object, subtransaction, let_value, abort, veto, veto_with, on_rule, fire, Body, empty, ◌then◌, Library, RuleOperation, Rule, no_rule, class_at, rule_at}
+use Rattle.hp_model.specs.Rules.{Coupling, immediate, deferred, separate, dependent, exclusive, is_immediate, is_detached, Statement, create, update, delete, signal, emit, when}
+use Rattle.hp_model.specs.Rules.{each, for_answer, with_object, subtransaction, let_value, abort, veto, veto_with, on_rule, fire, Body, empty, ◌then◌, Library, RuleOperation, Rule}
+use Rattle.hp_model.specs.Rules.{no_rule, class_at, rule_at}
 use Rattle.hp_model.specs.State.{State, RuleState, with_objects, with_rule, extended, extended_rule, find_object, rule_state, Status, absent, enabled, disabled}
-use Rattle.hp_model.specs.Tree.{Task, Step, condition_step, action_step, Node, Operation, rule_op, create_op, update_op, delete_op, no_items, operation, emission, apply, sub_node, fire_node, act_node, with_action, with_later_action, without_action, with_fault}
-use Rattle.hp_model.specs.Transactions.{End, done, abort_by, veto_by, Course, Work, ends, joined as joined_course, after_end, then_do, with_value, for_each, with_items, closed as closed_course, placed, drained}
-use Rattle.hp_model.specs.Firing.{Firing, Fire, after_firing, siblings, Siblings, course_of, Level, start, triggered, signal_in, Context, with_row, with_let, operated, created_if_absent, updated_if_present, deleted_if_present, vetoes, nested, sub_by, choose, run_statement, run_body, run_action, follow, decide, take_step, below_limit, fire_task, changed_row, made_row, checked_kinds, keyed_row, integer_value, boolean_value, values_of, answer_named, named_object, operated_rule, fired_task, start_fired, triggered_by, task_if, triggered_from, deferring, inert, fault_veto, action_course, action_context, action_task, task_environment}
+use Rattle.hp_model.specs.Tree.{Task, Step, condition_step, action_step, Node, Operation, rule_op, create_op, update_op, delete_op, no_items, operation, emission, apply, sub_node}
+use Rattle.hp_model.specs.Tree.{fire_node, act_node, with_action, with_later_action, without_action, with_fault}
+use Rattle.hp_model.specs.Transactions.{End, done, abort_by, veto_by, Course, Work, ends, joined as joined_course, after_end, then_do, with_value, for_each, with_items}
+use Rattle.hp_model.specs.Transactions.{closed as closed_course, placed, drained}
+use Rattle.hp_model.specs.Firing.{Firing, Fire, after_firing, siblings, Siblings, course_of, Level, start, triggered, signal_in, Context, with_row, with_let, operated}
+use Rattle.hp_model.specs.Firing.{created_if_absent, updated_if_present, deleted_if_present, vetoes, nested, sub_by, choose, run_statement, run_body, run_action, follow, decide}
+use Rattle.hp_model.specs.Firing.{take_step, below_limit, fire_task, changed_row, made_row, checked_kinds, keyed_row, integer_value, boolean_value, values_of, answer_named}
+use Rattle.hp_model.specs.Firing.{named_object, operated_rule, fired_task, start_fired, triggered_by, task_if, triggered_from, deferring, inert, fault_veto, action_course}
+use Rattle.hp_model.specs.Firing.{action_context, action_task, task_environment}
 use Rattle.hp_model.specs.Chains.{completes, triggers_from, signal_triggers, statement_triggers, body_triggers, may_detach, rule_triggers, NotTooDeep}
 use Rattle.hp_model.specs.Endings.{FaultsOnlyBy}
-use Rattle.hp_model.proofs.Causes.{Plain, value_plain, values_plain, made_plain, checked_plain, keyed_plain, integer_value_plain, boolean_value_plain, object_plain, operated_plain, answer_plain, let_plain, IsPlainVerdict, verdict_plain}
+use Rattle.hp_model.proofs.Causes.{Plain, value_plain, values_plain, made_plain, checked_plain, keyed_plain, integer_value_plain, boolean_value_plain, object_plain, operated_plain}
+use Rattle.hp_model.proofs.Causes.{answer_plain, let_plain, IsPlainVerdict, verdict_plain}
 
 -- the rank of a task rises with what it starts, so that rounds and generations end
 abbrev pub step_rank : Step → ℕ
@@ -192,7 +202,8 @@ level_of library now d below = record { library = library; depth = d; now = now;
 pub rule_passes : (library : Library) (allowed : ℕ → ℕ → Bool) → Guard library allowed → (d n : ℕ) → IsTrue (allowed d n)
     → Passes allowed (suc d) (body_triggers library (rule_at library n).action) × (may_detach (rule_at library n) ≡ true → Passes allowed (suc d) (signal_triggers library commit_reached))
 rule_passes library allowed guard d n ok =
-    let both = both_pass (allowed (suc d)) (body_triggers library (rule_at library n).action) (if may_detach (rule_at library n) then signal_triggers library commit_reached else []) (guard.follows d n ok) in
+    let both = both_pass (allowed (suc d)) (body_triggers library (rule_at library n).action) (if may_detach (rule_at library n) then signal_triggers library commit_reached else [])
+    (guard.follows d n ok) in
     (both.0, λ is. subst (λ b. Passes allowed (suc d) (if b then signal_triggers library commit_reached else [])) is both.1)
 
 module _ (library : Library) (allowed : ℕ → ℕ → Bool) where
@@ -220,7 +231,8 @@ module _ (library : Library) (allowed : ℕ → ℕ → Bool) where
 
     -- with the rest of the list, whether the rule's event is completed or not
     completed : (n : ℕ) (rule : Rule) (p : Primitive) (past : History) (ts : List Task) (rest : List ℕ) (b : Bool) → completes rule.event p ≡ b → rule_at library n ≡ rule
-        → Passes allowed (suc d) (if b then n ∷ rest else rest) → Fresh ts → Fresh (cons_option (option_map (triggered_by (level_of library now d below) n rule) (occurrence_of rule.event (p ∷ past))) ts)
+        → Passes allowed (suc d) (if b then n ∷ rest else rest) → Fresh ts
+        → Fresh (cons_option (option_map (triggered_by (level_of library now d below) n rule) (occurrence_of rule.event (p ∷ past))) ts)
     completed n rule p past ts rest true is same h k =
         found n rule (occurrence_of rule.event (p ∷ past)) ts same (and_parts (allowed (suc d) n) (list_all (allowed (suc d)) rest) h).0 k
     completed n rule p past ts rest false is same h k =
@@ -228,7 +240,8 @@ module _ (library : Library) (allowed : ℕ → ℕ → Bool) where
 
     by_status : (n : ℕ) (rule : Rule) (p : Primitive) (status : Status) (past : History) (ts : List Task) (rest : List ℕ) → rule_at library n ≡ rule
         → Passes allowed (suc d) (if completes rule.event p then n ∷ rest else rest) → Fresh ts
-        → Fresh (cons_option (task_if (extended_rule p (record { status = status; past = past })).status (level_of library now d below) n rule (extended_rule p (record { status = status; past = past })).past) ts)
+        → Fresh (cons_option (task_if (extended_rule p (record { status = status; past = past })).status (level_of library now d below) n rule
+        (extended_rule p (record { status = status; past = past })).past) ts)
     by_status n rule p absent past ts rest same h k = k
     by_status n rule p enabled past ts rest same h k = completed n rule p past ts rest (completes rule.event p) refl same h k
     by_status n rule p disabled past ts rest same h k = k
@@ -280,12 +293,14 @@ module _ (library : Library) (allowed : ℕ → ℕ → Bool) (guard : Guard lib
   for_each_kept n [] work S k = kept.at_end n S done tt
   for_each_kept n (x ∷ xs) work S k = then_do_kept n S (work x S) (for_each xs work) (k x S) (λ S'. for_each_kept n xs work S' k)
 
-  after_firing_kept : (n : ℕ) (stops : Bool) (v : Option Veto) (f : Firing) (rest : State → Siblings) (S : State) → P n S (firing_course f) → ((S' : State) → P n S' (course_of (rest S'))) → P n S (course_of (after_firing stops v f rest))
+  after_firing_kept : (n : ℕ) (stops : Bool) (v : Option Veto) (f : Firing) (rest : State → Siblings) (S : State) → P n S (firing_course f)
+      → ((S' : State) → P n S' (course_of (rest S'))) → P n S (course_of (after_firing stops v f rest))
   after_firing_kept n true (Some r) f rest S h k = kept.at_join n S (firing_course f) (ends (abort_by (vetoed r)) f.state) h (kept.at_end n f.state (abort_by (vetoed r)) tt)
   after_firing_kept n true None f rest S h k = kept.at_join n S (firing_course f) (course_of (rest f.state)) h (k f.state)
   after_firing_kept n false v f rest S h k = kept.at_join n S (firing_course f) (course_of (rest f.state)) h (k f.state)
 
-  pub siblings_kept : (n : ℕ) (f : Fire) (stops : Bool) (ts : List Task) (S : State) (At : ℕ → Type 0) → FiresKept At f → AllByRecursion (IsNewOf At n) ts → P (suc n) S (course_of (siblings f stops ts S))
+  pub siblings_kept : (n : ℕ) (f : Fire) (stops : Bool) (ts : List Task) (S : State) (At : ℕ → Type 0) → FiresKept At f → AllByRecursion (IsNewOf At n) ts
+      → P (suc n) S (course_of (siblings f stops ts S))
   siblings_kept n f stops [] S At h new = kept.at_end (suc n) S done tt
   siblings_kept n f stops (t ∷ ts) S At h new =
       after_firing_kept (suc n) stops (f S t).vetoed_by (f S t) (siblings f stops ts) S (kept.at_lower (suc n) (rank t) S (firing_course (f S t)) new.0.0.0 (h S t new.0.0.1 new.0.1))
@@ -297,9 +312,11 @@ module _ (library : Library) (allowed : ℕ → ℕ → Bool) (guard : Guard lib
   start_kept n (Some f) (t ∷ ts) S d h new =
       let low : d ≤ limit = h.0 in
       then_do_kept n S (placed (t ∷ ts) S) (λ S'. course_of (siblings f true (filter (λ (u : Task). is_immediate u.place) (t ∷ ts)) S'))
-      (kept.at_tasks n S (t ∷ ts) (every_to (IsNewAt library allowed d n) (IsNew limit (IsAllowed library allowed) n) (t ∷ ts) (λ u k. let at : u.depth ≡ d = k.0.1 in ((k.0.0, omega (arith, low, at)), k.1)) new))
+      (kept.at_tasks n S (t ∷ ts) (every_to (IsNewAt library allowed d n) (IsNew limit (IsAllowed library allowed) n) (t ∷ ts) (λ u k. let at : u.depth ≡ d =
+      k.0.1 in ((k.0.0, omega (arith, low, at)), k.1)) new))
       (λ S'. kept.at_lower n (suc n) S' (course_of (siblings f true (filter (λ (u : Task). is_immediate u.place) (t ∷ ts)) S')) (omega arith)
-      (siblings_kept n f true (filter (λ (u : Task). is_immediate u.place) (t ∷ ts)) S' (λ e. e ≡ d) h.1 (every_filter (IsNewAt library allowed d n) (λ (u : Task). is_immediate u.place) (t ∷ ts) new)))
+      (siblings_kept n f true (filter (λ (u : Task). is_immediate u.place) (t ∷ ts)) S' (λ e. e ≡ d) h.1
+      (every_filter (IsNewAt library allowed d n) (λ (u : Task). is_immediate u.place) (t ∷ ts) new)))
 
   module _ (now d : ℕ) (below : Option Fire) (fires : BelowKept (suc d) below) where
     abbrev level : Level
@@ -319,12 +336,14 @@ module _ (library : Library) (allowed : ℕ → ℕ → Bool) (guard : Guard lib
     operated_kept op p S ok =
         then_do_kept n S (with_items (operation op no_items) (with_objects S (apply op S.objects))) (signal_in level p) (kept.at_operation n S op) (λ S'. signal_kept p S' ok)
 
-    created_kept : (class : ℕ) (key : ℤ) (new : Row) (old : Option Row) (S : State) → Passes allowed (suc d) (signal_triggers library (created class (pos 0) [])) → P n S (created_if_absent level class key new old S)
+    created_kept : (class : ℕ) (key : ℤ) (new : Row) (old : Option Row) (S : State) → Passes allowed (suc d) (signal_triggers library (created class (pos 0) []))
+        → P n S (created_if_absent level class key new old S)
     created_kept class key new (Some old) S ok = kept.at_end n S (abort_by exists) tt
     created_kept class key new None S ok =
         operated_kept (create_op class key new) (created class key new) S (passes_alike library allowed (suc d) (created class (pos 0) []) (created class key new) (created_alike class key new) ok)
 
-    updated_kept : (class : ℕ) (key : ℤ) (given : Row) (old : Option Row) (S : State) → Passes allowed (suc d) (signal_triggers library (updated class (pos 0) [] [])) → P n S (updated_if_present level class key given old S)
+    updated_kept : (class : ℕ) (key : ℤ) (given : Row) (old : Option Row) (S : State) → Passes allowed (suc d) (signal_triggers library (updated class (pos 0) [] []))
+        → P n S (updated_if_present level class key given old S)
     updated_kept class key given None S ok = kept.at_end n S (abort_by missing) tt
     updated_kept class key given (Some old) S ok =
         operated_kept (update_op class key (changed_row given old)) (updated class key old (changed_row given old)) S
@@ -356,11 +375,13 @@ module _ (library : Library) (allowed : ℕ → ℕ → Bool) (guard : Guard lib
     mutual
       pub statement_kept : (s : Statement) (context : Context) (S : State) → Passes allowed (suc d) (statement_triggers library s) → P n S (run_statement s level context S)
       statement_kept (create class key assignments) context S ok =
-          with_value_kept n (keyed_row context.environment key assignments (made_row (class_at library class).fields)) (λ r. created_if_absent level class r.key r.row (find_object S.objects class r.key)) S
+          with_value_kept n (keyed_row context.environment key assignments (made_row (class_at library class).fields))
+          (λ r. created_if_absent level class r.key r.row (find_object S.objects class r.key)) S
           (keyed_plain context.environment key assignments (made_row (class_at library class).fields) (λ given. made_plain (class_at library class).fields given))
           (λ r. created_kept class r.key r.row (find_object S.objects class r.key) S ok)
       statement_kept (update class key assignments) context S ok =
-          with_value_kept n (keyed_row context.environment key assignments (checked_kinds (class_at library class).fields)) (λ r. updated_if_present level class r.key r.row (find_object S.objects class r.key)) S
+          with_value_kept n (keyed_row context.environment key assignments (checked_kinds (class_at library class).fields))
+          (λ r. updated_if_present level class r.key r.row (find_object S.objects class r.key)) S
           (keyed_plain context.environment key assignments (checked_kinds (class_at library class).fields) (λ given. checked_plain (class_at library class).fields given))
           (λ r. updated_kept class r.key r.row (find_object S.objects class r.key) S ok)
       statement_kept (delete class key) context S ok =
@@ -376,7 +397,8 @@ module _ (library : Library) (allowed : ℕ → ℕ → Bool) (guard : Guard lib
           with_value_kept n (boolean_value context.environment e) (λ b. choose b (run_body then_body level context) (run_body else_body level context)) S (boolean_value_plain context.environment e)
           (λ b. choose_kept b (run_body then_body level context) (run_body else_body level context) S (body_kept then_body context S parts.0) (body_kept else_body context S parts.1))
       statement_kept (each x class predicate body) context S ok =
-          with_value_kept n (answer context.environment x class predicate S.objects) (λ rows. for_each rows (λ r. run_body body level (with_row x r context))) S (answer_plain context.environment x class predicate S.objects)
+          with_value_kept n (answer context.environment x class predicate S.objects) (λ rows. for_each rows (λ r. run_body body level (with_row x r context)))
+          S (answer_plain context.environment x class predicate S.objects)
           (λ rows. for_each_kept n rows (λ r. run_body body level (with_row x r context)) S (λ r S'. body_kept body (with_row x r context) S' ok))
       statement_kept (for_answer x body) context S ok =
           for_each_kept n (answer_named context.answers x) (λ r. run_body body level (with_row x r context)) S (λ r S'. body_kept body (with_row x r context) S' ok)
@@ -395,7 +417,8 @@ module _ (library : Library) (allowed : ℕ → ℕ → Bool) (guard : Guard lib
       statement_kept (veto_with e) context S ok =
           with_value_kept n (value_of context.environment e) (λ v. vetoes context.rule (Some v)) S (value_plain context.environment e) (λ v. vetoes_kept context.rule (Some v) S)
       statement_kept (on_rule op m) context S ok =
-          with_value_kept n (operated_rule op (rule_state S m)) (λ r S'. with_items (operation (rule_op op m) no_items) (with_rule S' m r)) S (operated_plain op (rule_state S m)) (λ r. kept.at_rule n S op m r)
+          with_value_kept n (operated_rule op (rule_state S m)) (λ r S'. with_items (operation (rule_op op m) no_items) (with_rule S' m r)) S
+          (operated_plain op (rule_state S m)) (λ r. kept.at_rule n S op m r)
       statement_kept (fire m) context S ok = start_fired_kept (rule_state S m).status m S (and_parts (allowed (suc d) m) true ok).0
 
       pub body_kept : (b : Body) (context : Context) (S : State) → Passes allowed (suc d) (body_triggers library b) → P n S (run_body b level context S)
@@ -423,8 +446,17 @@ module _ (library : Library) (allowed : ℕ → ℕ → Bool) (guard : Guard lib
         → P (2 * t.depth) S (firing_course (deferring (fire_node t.rule t.place with_later_action) (placed (action_task place t found ∷ []) S)))
     deferring_kept place same found S =
         kept.at_node (2 * t.depth) S (placed (action_task place t found ∷ []) S) (fire_node t.rule t.place with_later_action) done (tt, (t.depth, ok.0)) tt
-        (kept.at_tasks (2 * t.depth) S (action_task place t found ∷ [])
-        (((omega arith, within), (ok.0, λ e. (rule_passes library allowed guard t.depth t.rule ok.0).1 (subst (λ c. (is_detached (rule_at library t.rule).event_coupling || is_detached c) ≡ true) same (either_detaches (is_detached (rule_at library t.rule).event_coupling) place e)))), tt))
+        (kept.at_tasks (2 * t.depth) S (action_task place t found ∷ []) (
+          (
+            (omega arith, within),
+            (
+              ok.0,
+              λ e. (rule_passes library allowed guard t.depth t.rule ok.0).1
+                  (subst (λ c. (is_detached (rule_at library t.rule).event_coupling || is_detached c) ≡ true) same (either_detaches (is_detached (rule_at library t.rule).event_coupling) place e)),
+            ),
+          ),
+          tt,
+        ))
 
     follow_kept : (place : Coupling) → place ≡ (rule_at library t.rule).action_coupling → (found : Findings) (S : State) → P (2 * t.depth) S (firing_course (follow place here t found S))
     follow_kept immediate same found S =

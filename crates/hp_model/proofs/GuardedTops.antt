@@ -9,10 +9,12 @@ use Rattle.hp_model.specs.State.{State}
 use Rattle.hp_model.specs.Tree.{Task, Step, condition_step, action_step}
 use Rattle.hp_model.specs.Transactions.{Detached, End, done, abort_by, veto_by, Course, Work, then_do, drained, Closed, closed, closed_by, survivor_by, survivors, detached_of, unreleased}
 use Rattle.hp_model.specs.Firing.{siblings, course_of, signal_in, level_at, fire_task, below_limit}
-use Rattle.hp_model.specs.Cascade.{Unit, now_in, transaction, moment, no_context, unit_work, task_work, most_rounds, next_round, rounds, top_course, top, veto_end, Transaction, generation, alone, due_by, due, cascade, run_unit, transactions_of}
+use Rattle.hp_model.specs.Cascade.{Unit, now_in, transaction, moment, no_context, unit_work, task_work, most_rounds, next_round, rounds, top_course, top, veto_end, Transaction}
+use Rattle.hp_model.specs.Cascade.{generation, alone, due_by, due, cascade, run_unit, transactions_of}
 use Rattle.hp_model.specs.Chains.{signal_triggers, body_triggers, unit_triggers}
 use Rattle.hp_model.proofs.Guarded.{rank, body_rank, firing_course, step_rank}
-use Rattle.hp_model.proofs.Guarded.{every_append, every_filter, every_to, both_pass, Guard, IsAllowed, IsPlainEnd, IsNew, KeptBy, Passes, FiresKept, then_do_kept, siblings_kept, signal_kept, body_kept, level_kept, fire_kept}
+use Rattle.hp_model.proofs.Guarded.{every_append, every_filter, every_to, both_pass, Guard, IsAllowed, IsPlainEnd, IsNew, KeptBy, Passes, FiresKept, then_do_kept, siblings_kept}
+use Rattle.hp_model.proofs.Guarded.{signal_kept, body_kept, level_kept, fire_kept}
 
 abbrev pub tasks : List Detached → List Task
 tasks ds = map (λ (d : Detached). d.task) ds
@@ -92,7 +94,11 @@ leaving library allowed limit = let May : Task → Type 0 = IsAllowed library al
   at_operation = λ n S op. (tt, tt);
   at_rule = λ n S op m r. (tt, tt);
   at_signal = λ n S p c h. h;
-  at_tasks = λ n S ts h. (every_filter (IsNew limit May n) (λ (t : Task). is_deferred t.place) ts h, tasks_unreleased limit May n (detached_of ts) (every_filter (IsNew limit May n) (λ (t : Task). is_detached t.place) ts h));
+  at_tasks = λ n S ts h. (
+    every_filter (IsNew limit May n) (λ (t : Task). is_deferred t.place) ts h,
+    tasks_unreleased limit May n (detached_of ts)
+        (every_filter (IsNew limit May n) (λ (t : Task). is_detached t.place) ts h),
+  );
   at_node = λ n S c what e shallow plain h. closed_leaves limit May n c.end S c h;
   at_drain = λ n S c h. (tt, h.1);
   at_ending = λ n S c e plain h. h;
@@ -141,7 +147,8 @@ module _ (library : Library) (allowed : ℕ → ℕ → Bool) (guard : Guard lib
       (both_pass (allowed 1) (signal_triggers library (moment_reached t)) (signal_triggers library commit_reached) ok).0
 
   pub task_kept : (t : Task) (S : State) → t.depth ≤ limit → May t → P (rank t) S (task_work library t S)
-  task_kept t S low ok = kept.at_ending (rank t) S (firing_course (fire_task library S t)) (veto_end (fire_task library S t).vetoed_by) (veto_plain (fire_task library S t).vetoed_by) (fires S t low ok)
+  task_kept t S low ok = kept.at_ending (rank t) S (firing_course (fire_task library S t)) (veto_end (fire_task library S t).vetoed_by)
+      (veto_plain (fire_task library S t).vetoed_by) (fires S t low ok)
 
 pub unit_commit : (library : Library) (allowed : ℕ → ℕ → Bool) (u : Unit) → Passes allowed 1 (unit_triggers library u) → Passes allowed 1 (signal_triggers library commit_reached)
 unit_commit library allowed (transaction now body) ok = (both_pass (allowed 1) (body_triggers library body) (signal_triggers library commit_reached) ok).1
@@ -168,7 +175,8 @@ module _ (library : Library) (allowed : ℕ → ℕ → Bool) (guard : Guard lib
       top_kept 1 (now_in u) 0 (unit_work library u) S (omega arith) (omega arith) (unit_commit library allowed u ok) (unit_kept library allowed guard P kept u S ok)
       (unit_kept library allowed guard (Leaves library.depth_limit (IsAllowed library allowed)) leaves u S ok)
 
-  pub task_course : (t : Task) (S : State) → t.depth ≤ library.depth_limit → IsAllowed library allowed t → Passes allowed (suc t.depth) (signal_triggers library commit_reached) → P (rank t) S (top_course library t.now t.depth (task_work library t) S)
+  pub task_course : (t : Task) (S : State) → t.depth ≤ library.depth_limit → IsAllowed library allowed t → Passes allowed (suc t.depth) (signal_triggers library commit_reached)
+      → P (rank t) S (top_course library t.now t.depth (task_work library t) S)
   task_course t S low ok commit =
       top_kept (rank t) t.now t.depth (task_work library t) S low (rank_small t) commit (task_kept library allowed guard P kept t S low ok)
       (task_kept library allowed guard (Leaves library.depth_limit (IsAllowed library allowed)) leaves t S low ok)

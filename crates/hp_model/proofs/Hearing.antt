@@ -1,5 +1,6 @@
 -- A signal notifies the rules that mention it, one after another.
-use Rattle.std.proofs.Common.{arith, ◌≡◌, ◌≢◌, refl, ap, ap₂, sym, ◌∙◌, subst, ℕ, zero, suc, ◌+◌, ◌<◌, ◌≤◌, Bool, true, false, true≢false, List, [], ◌∷◌, ◌++◌, map, length, Option, Some, None, append-nil, drop, take, get_or, ltb-true, ltb-false}
+use Rattle.std.proofs.Common.{arith, ◌≡◌, ◌≢◌, refl, ap, ap₂, sym, ◌∙◌, subst, ℕ, zero, suc, ◌+◌, ◌<◌, ◌≤◌, Bool, true, false, true≢false, List, [], ◌∷◌, ◌++◌, map, length, Option}
+use Rattle.std.proofs.Common.{Some, None, append-nil, drop, take, get_or, ltb-true, ltb-false}
 use Rattle.std.specs.Prelude.{◌==◌, ◌||◌, option_map, option_to_list, filter_map, if◌then◌else◌, slice_get, nat_lt}
 use Rattle.std.specs.List.{slice_index_or, list_any}
 use Rattle.std.proofs.lemmas.List.{get_or_past, map-append}
@@ -99,7 +100,8 @@ once_from k i (rule ∷ rules) p below = at i (mentions rule.event p) below (λ 
     at : (j : ℕ) (b : Bool) → j < length (if b then k ∷ mentioning_from (suc k) rules p else mentioning_from (suc k) rules p)
         → ((j : ℕ) → j < length (mentioning_from (suc k) rules p) → is_in (get_or (mentioning_from (suc k) rules p) j 0) (take j (mentioning_from (suc k) rules p)) ≡ false)
         → ((j : ℕ) → j < length (mentioning_from (suc k) rules p) → suc k ≤ get_or (mentioning_from (suc k) rules p) j 0)
-        → is_in (get_or (if b then k ∷ mentioning_from (suc k) rules p else mentioning_from (suc k) rules p) j 0) (take j (if b then k ∷ mentioning_from (suc k) rules p else mentioning_from (suc k) rules p)) ≡ false
+        → is_in (get_or (if b then k ∷ mentioning_from (suc k) rules p else mentioning_from (suc k) rules p) j 0)
+        (take j (if b then k ∷ mentioning_from (suc k) rules p else mentioning_from (suc k) rules p)) ≡ false
     at zero true low later above = refl
     at zero false low later above = later 0 low
     at (suc j) true low later above =
@@ -133,7 +135,8 @@ in_more : (n m : ℕ) (ns : List ℕ) → is_in m (ns ++ n ∷ []) ≡ (is_in m 
 in_more n m ns = list_any-append (λ k. k == m) ns (n ∷ []) ∙ ap (λ b. is_in m ns || b) (or-false (n == m))
 
 -- a rule whose knowledge doesn't change
-told-silent : (library : Library) (p : Primitive) (n : ℕ) (ns : List ℕ) (base : Cells) → changed (base (detector_cell n)) (heard (rule_at library n) p (base (detector_cell n))) ≡ base (detector_cell n)
+told-silent : (library : Library) (p : Primitive) (n : ℕ) (ns : List ℕ) (base : Cells)
+    → changed (base (detector_cell n)) (heard (rule_at library n) p (base (detector_cell n))) ≡ base (detector_cell n)
     → told library p (ns ++ n ∷ []) base ≡ told library p ns base
 told-silent library p n ns base silent i q = at q i
   where
@@ -245,7 +248,8 @@ tasks_for level p now ns = filter_map (λ t. t) (map (task_for level p now) ns)
 
 -- a rule's task, from its status and what is known of its past
 task_of_state : (level : Level) (p : Primitive) (S : State) (n : ℕ) (s : Status) → (rule_state S n).status ≡ s
-    → task_for level p (cells level.library S) n ≡ task_by s level n (rule_at level.library n) (advance (rule_at level.library n).event (known_by (rule_at level.library n).event (cells level.library S (detector_cell n))) p).0
+    → task_for level p (cells level.library S) n ≡ task_by s level n (rule_at level.library n)
+    (advance (rule_at level.library n).event (known_by (rule_at level.library n).event (cells level.library S (detector_cell n))) p).0
 task_of_state level p S n s is =
     ap (λ t. task_by t level n (rule_at level.library n) (advance (rule_at level.library n).event (known_by (rule_at level.library n).event (cells level.library S (detector_cell n))) p).0)
     (sym (status-cells level.library S n) ∙ is)
@@ -306,11 +310,13 @@ module _ (level : Level) (p : Primitive) where
   pub heard_none : (reads : List Read) (writes : Changes) → Heard [] reads writes writes []
   heard_none reads writes = record { from = λ base held S ordered is. (sym is ∙ sym (told-none level.library p (cells level.library S)), refl) }
 
-  one_task : (now : Cells) (n : ℕ) (ns : List ℕ) (tasks : List Task) (o : Option Task) → tasks ≡ tasks_for level p now ns → task_for level p now n ≡ o → tasks ++ option_to_list o ≡ tasks_for level p now (ns ++ n ∷ [])
+  one_task : (now : Cells) (n : ℕ) (ns : List ℕ) (tasks : List Task) (o : Option Task) → tasks ≡ tasks_for level p now ns → task_for level p now n ≡ o
+      → tasks ++ option_to_list o ≡ tasks_for level p now (ns ++ n ∷ [])
   one_task now n ns tasks o are is =
       ap₂ (λ (ts : List Task) (t : Option Task). ts ++ option_to_list t) are (sym is)
       ∙ ap (λ ts. tasks_for level p now ns ++ ts) (alone (task_for level p now n))
-      ∙ sym (ap (filter_map (λ (t : Option Task). t)) (map-append (task_for level p now) ns (n ∷ [])) ∙ filter_map-append (λ (t : Option Task). t) (map (task_for level p now) ns) (task_for level p now n ∷ []))
+      ∙ sym (ap (filter_map (λ (t : Option Task). t)) (map-append (task_for level p now) ns (n ∷ [])) ∙ filter_map-append (λ (t : Option Task). t)
+      (map (task_for level p now) ns) (task_for level p now n ∷ []))
     where
       alone : (t : Option Task) → option_to_list t ≡ filter_map (λ (u : Option Task). u) (t ∷ [])
       alone None = refl
@@ -379,9 +385,11 @@ module _ (level : Level) (p : Primitive) where
   }
 
   -- an enabled rule whose event looks back, from its detector's cell
-  pub heard_stepped : {ns : List ℕ} {reads more : List Read} {before now after : Changes} {tasks : List Task} (n : ℕ) {detector : Option CellValue} (o : Option Occurrence) (k : Option Knowledge) (next : Knowledge)
+  pub heard_stepped : {ns : List ℕ} {reads more : List Read} {before now after : Changes} {tasks : List Task} (n : ℕ) {detector : Option CellValue}
+      (o : Option Occurrence) (k : Option Knowledge) (next : Knowledge)
       → is_pure (rule_at level.library n).event ≡ false → is_in n ns ≡ false → k ≡ knowledge_at detector
-      → ((past : History) → k ≡ Some (knowledge (rule_at level.library n).event past) → (o ≡ occurrence_of (rule_at level.library n).event (p ∷ past)) × (next ≡ knowledge (rule_at level.library n).event (p ∷ past)))
+      → ((past : History) → k ≡ Some (knowledge (rule_at level.library n).event past) → (o ≡ occurrence_of (rule_at level.library n).event (p ∷ past))
+      × (next ≡ knowledge (rule_at level.library n).event (p ∷ past)))
       → Grows reads more → Heard ns reads before now tasks → ((base : Cells) → Holds base more → status_at (over base now (rule_cell n)) ≡ enabled)
       → ((base : Cells) → Holds base more → over base now (detector_cell n) ≡ detector)
       → after ≡ with_change now (detector_cell n) (Some (Some (knowledge_value next)))
@@ -398,7 +406,8 @@ module _ (level : Level) (p : Primitive) where
         let knows : k ≡ Some (knowledge rule.event past) = known ∙ ap knowledge_at read in
         let step = goes_on past knows in
         let learns : changed (cells level.library S (detector_cell n)) (heard rule p (cells level.library S (detector_cell n))) ≡ Some (knowledge_value next) =
-        ap (λ c. changed c (heard rule p c)) there ∙ ap (λ (a : Option Occurrence × Knowledge). Some (knowledge_value a.1)) (advance_lem rule.event p past) ∙ ap (λ j. Some (knowledge_value j)) (sym step.1) in
+        ap (λ c. changed c (heard rule p c)) there ∙ ap (λ (a : Option Occurrence × Knowledge). Some (knowledge_value a.1)) (advance_lem rule.event p past)
+        ∙ ap (λ j. Some (knowledge_value j)) (sym step.1) in
         let task : task_for level p (cells level.library S) n ≡ option_map (triggered_by level n rule) o =
         task_of_state level p S n enabled status
         ∙ ap (λ j. option_map (triggered_by level n rule) (advance rule.event j p).0) (known-cells level.library S n status)

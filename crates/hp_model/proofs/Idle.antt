@@ -9,14 +9,24 @@ use Rattle.std.specs.List.{filter_map, slice_index_or, list_all, AllByRecursion,
 use Rattle.hp_model.specs.Values.{Value, Row, Veto, exists, missing, requested, depth_exceeded, Outcome}
 use Rattle.hp_model.specs.Occurrences.{Primitive, created, updated, deleted, signalled, commit_reached, moment_reached, History, Occurrence, no_occurrence}
 use Rattle.hp_model.specs.Events.{occurrence_of}
-use Rattle.hp_model.specs.Rules.{Coupling, immediate, deferred, separate, dependent, exclusive, is_immediate, is_deferred, is_detached, Rule, no_rule, Library, rule_at, class_at, Statement, create, update, delete, signal, emit, when, each, for_answer, with_object, subtransaction, let_value, abort, veto, veto_with, on_rule, fire, Body, empty, ◌then◌, RuleOperation, install, enable, disable, remove}
-use Rattle.hp_model.specs.State.{Objects, State, initial_state, RuleState, Status, absent, enabled, disabled, with_status, rule_state, with_objects, with_rule, extended, find_object, write_object, remove_object}
+use Rattle.hp_model.specs.Rules.{Coupling, immediate, deferred, separate, dependent, exclusive, is_immediate, is_deferred, is_detached, Rule, no_rule, Library, rule_at, class_at}
+use Rattle.hp_model.specs.Rules.{Statement, create, update, delete, signal, emit, when, each, for_answer, with_object, subtransaction, let_value, abort, veto, veto_with, on_rule}
+use Rattle.hp_model.specs.Rules.{fire, Body, empty, ◌then◌, RuleOperation, install, enable, disable, remove}
+use Rattle.hp_model.specs.State.{Objects, State, initial_state, RuleState, Status, absent, enabled, disabled, with_status, rule_state, with_objects, with_rule, extended}
+use Rattle.hp_model.specs.State.{find_object, write_object, remove_object}
 use Rattle.hp_model.specs.Expressions.{value_of}
 use Rattle.hp_model.specs.Conditions.{Findings, Verdict, satisfied, unsatisfied, faulty, answer, verdict, let_of}
-use Rattle.hp_model.specs.Tree.{Task, Step, condition_step, action_step, Node, sub_node, fire_node, act_node, with_action, with_fault, Operation, create_op, update_op, delete_op, rule_op, no_items, operation, append}
-use Rattle.hp_model.specs.Transactions.{End, done, abort_by, veto_by, Course, Work, ends, joined, after_end, then_do, with_value, for_each, with_items, closed, closed_by, undone, drained, placed, Detached, unreleased, survivor_by, survivors, detached_of}
-use Rattle.hp_model.specs.Firing.{inert, fault_veto, Firing, Fire, after_firing, siblings, Siblings, course_of, Level, start, task_if, triggered_by, triggered_from, triggered, signal_in, Context, with_row, with_let, operated, created_if_absent, updated_if_present, deleted_if_present, changed_row, made_row, checked_kinds, keyed_row, integer_value, boolean_value, values_of, answer_named, named_object, operated_rule, fired_task, start_fired, vetoes, nested, sub_by, sub_in, choose, run_statement, run_body, firing_with, run_action, action_course, action_context, action_veto, follow, decide, take_step, task_environment, below_limit, level_at, fire_task}
-use Rattle.hp_model.specs.Cascade.{run_units, unit_report, Unit, transaction, moment, now_in, no_context, unit_work, veto_end, task_work, most_rounds, next_round, rounds, top_course, top, Generation, alone, followed_by, generation, due, due_by, Cascade, Evaluation, before_cascade, cascade, run_unit, unit_report}
+use Rattle.hp_model.specs.Tree.{Task, Step, condition_step, action_step, Node, sub_node, fire_node, act_node, with_action, with_fault, Operation, create_op, update_op, delete_op}
+use Rattle.hp_model.specs.Tree.{rule_op, no_items, operation, append}
+use Rattle.hp_model.specs.Transactions.{End, done, abort_by, veto_by, Course, Work, ends, joined, after_end, then_do, with_value, for_each, with_items, closed, closed_by, undone}
+use Rattle.hp_model.specs.Transactions.{drained, placed, Detached, unreleased, survivor_by, survivors, detached_of}
+use Rattle.hp_model.specs.Firing.{inert, fault_veto, Firing, Fire, after_firing, siblings, Siblings, course_of, Level, start, task_if, triggered_by, triggered_from, triggered}
+use Rattle.hp_model.specs.Firing.{signal_in, Context, with_row, with_let, operated, created_if_absent, updated_if_present, deleted_if_present, changed_row, made_row, checked_kinds}
+use Rattle.hp_model.specs.Firing.{keyed_row, integer_value, boolean_value, values_of, answer_named, named_object, operated_rule, fired_task, start_fired, vetoes, nested, sub_by}
+use Rattle.hp_model.specs.Firing.{sub_in, choose, run_statement, run_body, firing_with, run_action, action_course, action_context, action_veto, follow, decide, take_step}
+use Rattle.hp_model.specs.Firing.{task_environment, below_limit, level_at, fire_task}
+use Rattle.hp_model.specs.Cascade.{run_units, unit_report, Unit, transaction, moment, now_in, no_context, unit_work, veto_end, task_work, most_rounds, next_round, rounds}
+use Rattle.hp_model.specs.Cascade.{top_course, top, Generation, alone, followed_by, generation, due, due_by, Cascade, Evaluation, before_cascade, cascade, run_unit, unit_report}
 use Rattle.hp_model.proofs.BridgesSignals.{extended-status}
 use Rattle.hp_model.proofs.BridgesWrites.{rule_state-apart, with_rule-same}
 use Rattle.hp_model.specs.Chains.{NotTooDeep}
@@ -117,7 +127,12 @@ module _ (library : Library) (present : ℕ → Bool) (whole : IsInstallClosed l
   kept_end e S h = record { is = refl; good = record { state = h; queued = tt; detached = tt } }
 
   joined_good : (c d : Course) → Good c → Good d → Good (joined c d)
-  joined_good c d g k = record { state = k.state; queued = all_append IsPresent c.queued d.queued g.queued k.queued; detached = all_append (λ (e : Detached). IsPresent e.task) c.detached d.detached g.detached k.detached }
+  joined_good c d g k = record {
+    state = k.state;
+    queued = all_append IsPresent c.queued d.queued g.queued k.queued;
+    detached =
+        all_append (λ (e : Detached). IsPresent e.task) c.detached d.detached g.detached k.detached;
+  }
 
   kept_after : (e : End) (c : Course) (f g : Work) → Good c → Equal f g → Kept (after_end e c f) (after_end e c g)
   kept_after done c f g good same = let next = same c.state good.state in record { is = ap (joined c) next.is; good = joined_good c (f c.state) good next.good }
@@ -163,7 +178,14 @@ module _ (library : Library) (present : ℕ → Bool) (whole : IsInstallClosed l
   one_more : (f : Firing) (g h : Siblings) → GoodFiring f → Kept (course_of g) (course_of h)
       → Kept (course_of (record { firings = f ∷ g.firings; state = g.state; vetoed_by = g.vetoed_by })) (course_of (record { firings = f ∷ h.firings; state = h.state; vetoed_by = h.vetoed_by }))
   one_more f g h good kept = record {
-    is = λ i. record { state = (kept.is i).state; queued = f.queued ++ (kept.is i).queued; detached = f.detached ++ (kept.is i).detached; items = append f.items (kept.is i).items; end = (kept.is i).end };
+    is = λ i. record {
+      state = (kept.is i).state;
+      queued = f.queued ++ (kept.is i).queued;
+      detached = f.detached ++ (kept.is i).detached;
+      items =
+          append f.items (kept.is i).items;
+      end = (kept.is i).end;
+    };
     good = record {
       state = kept.good.state;
       queued = all_append IsPresent f.queued (course_of g).queued good.queued kept.good.queued;
@@ -173,7 +195,16 @@ module _ (library : Library) (present : ℕ → Bool) (whole : IsInstallClosed l
 
   kept_sibling : (stops : Bool) (v : Option Veto) (f : Firing) (g h : State → Siblings) → GoodFiring f → Equal (λ S. course_of (g S)) (λ S. course_of (h S))
       → Kept (course_of (after_firing stops v f g)) (course_of (after_firing stops v f h))
-  kept_sibling true (Some v) f g h good same = record { is = refl; good = record { state = good.state; queued = all_append IsPresent f.queued [] good.queued tt; detached = all_append (λ (e : Detached). IsPresent e.task) f.detached [] good.detached tt } }
+  kept_sibling true (Some v) f g h good same =
+      record {
+        is = refl;
+        good = record {
+          state = good.state;
+          queued = all_append IsPresent f.queued [] good.queued tt;
+          detached =
+              all_append (λ (e : Detached). IsPresent e.task) f.detached [] good.detached tt;
+        };
+      }
   kept_sibling true None f g h good same = one_more f (g f.state) (h f.state) good (same f.state good.state)
   kept_sibling false v f g h good same = one_more f (g f.state) (h f.state) good (same f.state good.state)
 
@@ -189,7 +220,12 @@ module _ (library : Library) (present : ℕ → Bool) (whole : IsInstallClosed l
   kept_placed : (ts : List Task) → ArePresent ts → Equal (placed ts) (placed ts)
   kept_placed ts here S h = record {
     is = refl;
-    good = record { state = h; queued = all_filter IsPresent (λ (t : Task). is_deferred t.place) ts here; detached = unreleased_present (detached_of ts) (all_filter IsPresent (λ (t : Task). is_detached t.place) ts here) };
+    good = record {
+      state = h;
+      queued = all_filter IsPresent (λ (t : Task). is_deferred t.place) ts here;
+      detached =
+          unreleased_present (detached_of ts) (all_filter IsPresent (λ (t : Task). is_detached t.place) ts here);
+    };
   }
 
   kept_start : (below below' : Option Fire) → EqualBelow below below' → (ts : List Task) → ArePresent ts → Equal (start below ts) (start below' ts)
@@ -302,7 +338,8 @@ module _ (library : Library) (present : ℕ → Bool) (whole : IsInstallClosed l
     abbrev rule_work : RuleOperation → ℕ → RuleState → Work
     rule_work op n r = with_value (operated_rule op r) (λ r' S'. with_items (operation (rule_op op n) no_items) (with_rule S' n r'))
 
-    kept_set : (op : RuleOperation) (n : ℕ) (r : RuleState) → IsTrue (present n) → Equal (λ S. with_items (operation (rule_op op n) no_items) (with_rule S n r)) (λ S. with_items (operation (rule_op op n) no_items) (with_rule S n r))
+    kept_set : (op : RuleOperation) (n : ℕ) (r : RuleState) → IsTrue (present n)
+        → Equal (λ S. with_items (operation (rule_op op n) no_items) (with_rule S n r)) (λ S. with_items (operation (rule_op op n) no_items) (with_rule S n r))
     kept_set op n r here S h = record { is = refl; good = record { state = absent_set S n r here h; queued = tt; detached = tt } }
 
     -- a rule that is absent stays so, unless it is installed
@@ -316,7 +353,8 @@ module _ (library : Library) (present : ℕ → Bool) (whole : IsInstallClosed l
       good = record { state = subst Absent (sym (with_rule-same S n) ∙ ap (with_rule S n) at) h; queued = tt; detached = tt };
     }
 
-    kept_rule : (op : RuleOperation) (n : ℕ) (S : State) (b : Bool) → present n ≡ b → IsTrue (list_all present (operation_installs op n)) → Absent S → Kept (rule_work op n (rule_state S n) S) (rule_work op n (rule_state S n) S)
+    kept_rule : (op : RuleOperation) (n : ℕ) (S : State) (b : Bool) → present n ≡ b → IsTrue (list_all present (operation_installs op n)) → Absent S
+        → Kept (rule_work op n (rule_state S n) S) (rule_work op n (rule_state S n) S)
     kept_rule op n S true is ok h = kept_value (operated_rule op (rule_state S n)) _ _ (λ r. kept_set op n r is) S h
     kept_rule op n S false is ok h =
         let at : rule_state S n ≡ record { status = absent; past = (rule_state S n).past } = ap (λ s. record { status = s; past = (rule_state S n).past }) (h n is) in
@@ -361,7 +399,8 @@ module _ (library : Library) (present : ℕ → Bool) (whole : IsInstallClosed l
       kept_statement (with_object x class key body) context ok = λ S h. kept_value (named_object S.objects context.environment class key) _ _ (λ r. kept_body body (with_row x r context) ok) S h
       kept_statement (subtransaction body otherwise) context ok =
           let parts = both_installed present (body_installs body) (body_installs otherwise) ok in
-          kept_sub (run_body body level context) (run_body body level' context) (run_body otherwise level context) (run_body otherwise level' context) (kept_body body context parts.0) (kept_body otherwise context parts.1)
+          kept_sub (run_body body level context) (run_body body level' context) (run_body otherwise level context) (run_body otherwise level' context)
+          (kept_body body context parts.0) (kept_body otherwise context parts.1)
       kept_statement (let_value x a body) context ok = λ S h. kept_value (let_of S.objects context.environment a) _ _ (λ v. kept_body body (with_let x v context) ok) S h
       kept_statement abort context ok = kept_end (abort_by requested)
       kept_statement veto context ok = kept_veto context.rule None
@@ -373,7 +412,8 @@ module _ (library : Library) (present : ℕ → Bool) (whole : IsInstallClosed l
       kept_body empty context ok = kept_end done
       kept_body (s then rest) context ok =
           let parts = both_installed present (statement_installs s) (body_installs rest) ok in
-          λ S h. kept_then (run_statement s level context S) (run_statement s level' context S) (run_body rest level context) (run_body rest level' context) (kept_statement s context parts.0 S h) (kept_body rest context parts.1)
+          λ S h. kept_then (run_statement s level context S) (run_statement s level' context S) (run_body rest level context) (run_body rest level' context)
+          (kept_statement s context parts.0 S h) (kept_body rest context parts.1)
 
     -- ---- conditions and actions
 
@@ -413,7 +453,8 @@ module _ (library : Library) (present : ℕ → Bool) (whole : IsInstallClosed l
     kept_step : (step : Step) (t : Task) → IsPresent t → (S : State) → Absent S → KeptFiring (take_step step level t S) (take_step step level' t S)
     kept_step condition_step t here S h =
         let asked = λ (r : Rule). verdict S.objects (task_environment t) r.condition in
-        subst (λ (r : Rule). KeptFiring (decide (asked (rule_at library t.rule)) level t S) (decide (asked r) level' t S)) (sym (left t.rule here)) (kept_decision (asked (rule_at library t.rule)) t here S h)
+        subst (λ (r : Rule). KeptFiring (decide (asked (rule_at library t.rule)) level t S) (decide (asked r) level' t S)) (sym (left t.rule here))
+        (kept_decision (asked (rule_at library t.rule)) t here S h)
     kept_step (action_step found) t here S h = kept_action (act_node t.rule t.place) t here found S h
 
   kept_below : (n : ℕ) → EqualBelow (below_limit library n) (below_limit other n)
@@ -421,7 +462,8 @@ module _ (library : Library) (present : ℕ → Bool) (whole : IsInstallClosed l
   kept_below (suc n) = λ t here S h. kept_step t.depth t.now (below_limit library n) (below_limit other n) (kept_below n) t.step t here S h
 
   kept_fire : EqualFire (fire_task library) (fire_task other)
-  kept_fire t here S h = kept_step t.depth t.now (below_limit library (library.depth_limit - t.depth)) (below_limit other (library.depth_limit - t.depth)) (kept_below (library.depth_limit - t.depth)) t.step t here S h
+  kept_fire t here S h = kept_step t.depth t.now (below_limit library (library.depth_limit - t.depth)) (below_limit other (library.depth_limit - t.depth))
+      (kept_below (library.depth_limit - t.depth)) t.step t here S h
 
   -- ---- top-level transactions
 
@@ -444,7 +486,11 @@ module _ (library : Library) (present : ℕ → Bool) (whole : IsInstallClosed l
   kept_round done [] c here good = record { is = refl; good = good }
   kept_round done (t ∷ ts) c here good =
       let next = kept_siblings (fire_task library) (fire_task other) kept_fire true (t ∷ ts) here c.state good.state in
-      record { is = ap (joined (drained c)) next.is; good = joined_good (drained c) (course_of (siblings (fire_task library) true (t ∷ ts) c.state)) (record { state = good.state; queued = tt; detached = good.detached }) next.good }
+      record {
+        is = ap (joined (drained c)) next.is;
+        good = joined_good (drained c) (course_of (siblings (fire_task library) true (t ∷ ts) c.state))
+            (record { state = good.state; queued = tt; detached = good.detached }) next.good;
+      }
   kept_round (abort_by x) ts c here good = record { is = refl; good = good }
   kept_round (veto_by v) ts c here good = record { is = refl; good = good }
 
@@ -473,7 +519,8 @@ module _ (library : Library) (present : ℕ → Bool) (whole : IsInstallClosed l
   alone_good t (abort_by x) S c h good = record { state = h; detached = survivors_present c.detached good.detached }
   alone_good t (veto_by v) S c h good = record { state = h; detached = survivors_present c.detached good.detached }
 
-  kept_alone : (t : Option Task) (now depth : ℕ) (work work' : Work) → Equal work work' → (S : State) → Absent S → KeptGeneration (alone t (top library now depth work S)) (alone t (top other now depth work' S))
+  kept_alone : (t : Option Task) (now depth : ℕ) (work work' : Work) → Equal work work' → (S : State) → Absent S
+      → KeptGeneration (alone t (top library now depth work S)) (alone t (top other now depth work' S))
   kept_alone t now depth work work' equal S h =
       let c = top_course library now depth work S in
       let same = kept_top_course now depth work work' equal S h in
@@ -539,7 +586,8 @@ module _ (library : Library) (present : ℕ → Bool) (whole : IsInstallClosed l
 pub others_are_idle : OthersAreIdle
 others_are_idle script present only =
     kept_units script.library present only.0 script.units only.1 (initial_state script.library) (nothing_installed script.library present only.0)
-    ∙ ap (λ n. run_units (with_idle present script.library) script.units (record { objects = []; rules = replicate n (with_status absent) })) (sym (idle_length present (length script.library.classes) 0 script.library.rules))
+    ∙ ap (λ n. run_units (with_idle present script.library) script.units (record { objects = []; rules = replicate n (with_status absent) }))
+    (sym (idle_length present (length script.library.classes) 0 script.library.rules))
 
 pub never_too_deep_by_idle : NeverTooDeepByIdle
 never_too_deep_by_idle script present only safe =

@@ -5,7 +5,8 @@ use Rattle.std.specs.Prelude.{⊤, ◌||◌, slice_get, option_to_list, option_m
 use Rattle.std.specs.Option.{option_or}
 use Rattle.std.specs.List.{AllByRecursion, list_any, last_or}
 use Rattle.hp_model.specs.Occurrences.{Primitive, History, Occurrence, primitive_occurrence}
-use Rattle.hp_model.specs.Events.{Pattern, matches, Event, pattern_event, or_event, seq_event, closure_event, Occurs, occurrences, occurrences_since, joined, sequences, sequence_at, gathered, closed, closure_at, pattern_at, occurrence_of, total_count}
+use Rattle.hp_model.specs.Events.{Pattern, matches, Event, pattern_event, or_event, seq_event, closure_event, Occurs, occurrences, occurrences_since, joined, sequences}
+use Rattle.hp_model.specs.Events.{sequence_at, gathered, closed, closure_at, pattern_at, occurrence_of, total_count}
 use Rattle.hp_model.specs.Kinds.{Columns, same_length, merged, either_columns, followed, columns_of}
 use Rattle.hp_model.proofs.FitValues.{each_append}
 use Rattle.hp_model.proofs.KindValues.{PartsMatch, either_is}
@@ -34,7 +35,8 @@ followed_match false cs b ps qs h k = parts_more cs ps qs h
 
 any_left : {A : Type 0} (test : A → Bool) (xs ys : List A) → IsTrue (list_any test xs) → IsTrue (list_any test (xs ++ ys))
 any_left test [] ys h = cc
-any_left test (x ∷ xs) ys h = either_is (test x) (list_any test xs) h (IsTrue (test x || list_any test (xs ++ ys))) (λ is. or_first (test x) (list_any test (xs ++ ys)) is) (λ more. or_second (test x) (list_any test (xs ++ ys)) (any_left test xs ys more))
+any_left test (x ∷ xs) ys h = either_is (test x) (list_any test xs) h (IsTrue (test x || list_any test (xs ++ ys))) (λ is. or_first (test x) (list_any test (xs ++ ys)) is)
+    (λ more. or_second (test x) (list_any test (xs ++ ys)) (any_left test xs ys more))
   where
     or_first : (a b : Bool) → a ≡ true → (a || b) ≡ true
     or_first true b e = refl
@@ -146,7 +148,8 @@ module _ (P : Primitive → Type 0) where
   closure_well a b body end well end_well (p ∷ h) all =
       closed_well a b (gathered (occurrences_since end body h)) (end (p ∷ h)) (gathered_well a (occurrences_since end body h) (since_well a end body well h all.1)) (end_well (p ∷ h) all)
 
-  matched_well : (pattern : Pattern) (b : Bool) (p : Primitive) → matches pattern p ≡ b → P p → MayBeWell (record { places = (pattern ∷ []) ∷ []; exact = true }) (if b then Some (primitive_occurrence p) else None)
+  matched_well : (pattern : Pattern) (b : Bool) (p : Primitive) → matches pattern p ≡ b → P p
+      → MayBeWell (record { places = (pattern ∷ []) ∷ []; exact = true }) (if b then Some (primitive_occurrence p) else None)
   matched_well pattern true p is h = ((is_first (matches pattern p) is, tt), (h, tt))
     where
       is_first : (b : Bool) → b ≡ true → (b || false) ≡ true
@@ -159,10 +162,16 @@ module _ (P : Primitive → Type 0) where
   pattern_well pattern (p ∷ h) all = matched_well pattern (matches pattern p) p refl all.0
 
   either_well : (a b : Columns) (o p : Option Occurrence) → MayBeWell a o → MayBeWell b p → MayBeWell (either_columns a b) (option_or o p)
-  either_well a b (Some o) p h k =
-      (merged_left a.places b.places (either_columns a b).exact a.exact o.parts (λ is. let parts = and_parts a.exact (b.exact && same_length a.places b.places) is in (parts.0, (and_parts b.exact (same_length a.places b.places) parts.1).1)) h.0, h.1)
-  either_well a b None (Some o) h k =
-      (merged_right a.places b.places (either_columns a b).exact b.exact o.parts (λ is. and_parts b.exact (same_length a.places b.places) (and_parts a.exact (b.exact && same_length a.places b.places) is).1) k.0, k.1)
+  either_well a b (Some o) p h k = (
+    merged_left a.places b.places (either_columns a b).exact a.exact o.parts (λ is. let parts =
+        and_parts a.exact (b.exact && same_length a.places b.places) is in (parts.0, (and_parts b.exact (same_length a.places b.places) parts.1).1)) h.0,
+    h.1,
+  )
+  either_well a b None (Some o) h k = (
+    merged_right a.places b.places (either_columns a b).exact b.exact o.parts
+        (λ is. and_parts b.exact (same_length a.places b.places) (and_parts a.exact (b.exact && same_length a.places b.places) is).1) k.0,
+    k.1,
+  )
   either_well a b None None h k = tt
 
   -- an event's occurrence is as its columns say, and its parts are in the past

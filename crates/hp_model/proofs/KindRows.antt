@@ -5,18 +5,25 @@ use Rattle.std.proofs.lemmas.Bool.Decides.{Decides-eqb}
 use Rattle.std.specs.Prelude.{⊤, Ok, Err, bytes_eq, if◌then◌else◌, ◌==◌, ◌||◌, ◌+ℤ◌, is_some, unwrap_or}
 use Rattle.std.specs.List.{last_or, AllByRecursion, list_all, list_any}
 use Rattle.std.specs.Map.{lookup}
-use Rattle.hp_model.specs.Values.{Name, NamedValues, Kind, integer_kind, boolean_kind, text_kind, integer, Field, kind_of, is_kind, Value, Row, KeyedRow, Cause, missing, wrong_kind, Outcome, ◌>>=◌, or_cause}
+use Rattle.hp_model.specs.Values.{Name, NamedValues, Kind, integer_kind, boolean_kind, text_kind, integer, Field, kind_of, is_kind, Value, Row, KeyedRow, Cause, missing}
+use Rattle.hp_model.specs.Values.{wrong_kind, Outcome, ◌>>=◌, or_cause}
 use Rattle.hp_model.specs.Expressions as E
 use Rattle.hp_model.specs.Expressions.{plus, Comparison, compare, Expression, Environment, bound, holding, value_of}
-use Rattle.hp_model.specs.Conditions.{selected, answer, Merge, merged, added, preferred, row_count, key_after, present, aggregated, let_of, Answers, Findings, Verdict, satisfied, unsatisfied, faulty, keeping, keeping_value, if_answered, if_unanswered, if_valued, verdict, with_answers, with_values, with_findings}
-use Rattle.hp_model.specs.Rules.{Aggregate, count_over, sum_over, least_over, greatest_over, next_key, single, Entry, query_entry, no_entry, let_entry, Assignment, RuleOperation, install, enable, disable, remove, Library}
+use Rattle.hp_model.specs.Conditions.{selected, answer, Merge, merged, added, preferred, row_count, key_after, present, aggregated, let_of, Answers, Findings, Verdict, satisfied}
+use Rattle.hp_model.specs.Conditions.{unsatisfied, faulty, keeping, keeping_value, if_answered, if_unanswered, if_valued, verdict, with_answers, with_values, with_findings}
+use Rattle.hp_model.specs.Rules.{Aggregate, count_over, sum_over, least_over, greatest_over, next_key, single, Entry, query_entry, no_entry, let_entry, Assignment, RuleOperation}
+use Rattle.hp_model.specs.Rules.{install, enable, disable, remove, Library}
 use Rattle.hp_model.specs.State.{Objects, ObjectName, rows_of, class_keys, object_fits, find_object, RuleState, Status, absent, enabled, disabled}
 use Rattle.hp_model.specs.Firing.{values_of, assigned, of_kind, made_row, kind_in, checked_kinds, keyed_row, integer_value, boolean_value, named_object, operated_rule}
-use Rattle.hp_model.specs.Kinds.{Sort, only, any, has_sort, Declared, covers, Scope, with_name, with_sort, is_test, ordered, are_ordered, aggregate_sort, is_aggregate_calm, if_sorted, is_only, gives_sort, is_given, sort_of, is_calm, is_condition_calm, arguments_kinded, assignments_kinded, all_assigned, entries_kinded, with_entries, query_classes, NotOfKinds, CauseOf}
+use Rattle.hp_model.specs.Kinds.{Sort, only, any, has_sort, Declared, covers, Scope, with_name, with_sort, is_test, ordered, are_ordered, aggregate_sort, is_aggregate_calm}
+use Rattle.hp_model.specs.Kinds.{if_sorted, is_only, gives_sort, is_given, sort_of, is_calm, is_condition_calm, arguments_kinded, assignments_kinded, all_assigned, entries_kinded}
+use Rattle.hp_model.specs.Kinds.{with_entries, query_classes, NotOfKinds, CauseOf}
 use Rattle.hp_model.proofs.FitValues.{ObjectsFit}
 use Rattle.hp_model.proofs.FitRows.{KindsAre}
 use Rattle.hp_model.proofs.FitStates.{found_fit}
-use Rattle.hp_model.proofs.KindValues.{Safe, Safe-value, Safe-cause, Safe-then, Safe-some, Safe-weaker, not_of_kinds, IsOf, ArithmeticOf, Typed, only_gives, only_is, some_if, either_is, range_safe, calculate_safe, below_integers, below_texts, ValuesTyped, integer_safe, boolean_safe, one_name, KeyedOf, object_row, EnvironmentTyped, value_typed}
+use Rattle.hp_model.proofs.KindValues.{Safe, Safe-value, Safe-cause, Safe-then, Safe-some, Safe-weaker, not_of_kinds, IsOf, ArithmeticOf, Typed, only_gives, only_is, some_if}
+use Rattle.hp_model.proofs.KindValues.{either_is, range_safe, calculate_safe, below_integers, below_texts, ValuesTyped, integer_safe, boolean_safe, one_name, KeyedOf, object_row}
+use Rattle.hp_model.proofs.KindValues.{EnvironmentTyped, value_typed}
 
 -- no cause of a kind, none of arithmetic if it is calm, and the value has the property
 abbrev pub Sound : {A : Type 0} (calm : Bool) (P : A → Type 0) → Outcome A → Type 0
@@ -57,7 +64,8 @@ module _ (library : Library) (d : Declared) (scope : Scope) (env : Environment) 
   pub boolean_sound : (e : Expression) → (is_calm e ≡ false → calm ≡ false) → is_only boolean_kind (sort_of library d scope e) ≡ true → Sound calm (λ _. ⊤) (boolean_value env e)
   boolean_sound e less h = Safe-then (kind_sound boolean_kind e less h) λ v hv. boolean_safe v hv
 
-  sort_by : (x : Expression) → (is_calm x ≡ false → calm ≡ false) → (s : Sort) (o : Option Sort) (out : Outcome Value) → Typed (ArithmeticOf x) o out → gives_sort s o ≡ true → Sound calm (λ v. IsTrue (has_sort s v)) out
+  sort_by : (x : Expression) → (is_calm x ≡ false → calm ≡ false) → (s : Sort) (o : Option Sort) (out : Outcome Value) → Typed (ArithmeticOf x) o out
+      → gives_sort s o ≡ true → Sound calm (λ v. IsTrue (has_sort s v)) out
   sort_by x less any o out h e = Safe-weaker (λ c k. k) (λ v k. refl) (any_by x less o out h e)
   sort_by x less (only k) o out h e = sound calm x less (only_gives k o out h e)
 
@@ -65,9 +73,11 @@ module _ (library : Library) (d : Declared) (scope : Scope) (env : Environment) 
   rest_sound [] less h = Safe-value [] tt
   rest_sound (e ∷ es) less h =
       let parts = and_parts (is_some (sort_of library d scope e)) (list_all (λ x. is_some (sort_of library d scope x)) es) h in
-      Safe-then (any_sound e (λ k. less (not_first (is_calm e) (list_all is_calm es) k)) parts.0) λ v _. Safe-then (rest_sound es (λ k. less (not_second (is_calm e) (list_all is_calm es) k)) parts.1) λ vs _. Safe-value (v ∷ vs) tt
+      Safe-then (any_sound e (λ k. less (not_first (is_calm e) (list_all is_calm es) k)) parts.0) λ v _. Safe-then
+      (rest_sound es (λ k. less (not_second (is_calm e) (list_all is_calm es) k)) parts.1) λ vs _. Safe-value (v ∷ vs) tt
 
-  pub arguments_sound : (ss : List Sort) (es : List Expression) → (list_all is_calm es ≡ false → calm ≡ false) → IsTrue (arguments_kinded library d scope ss es) → Sound calm (λ vs. IsTrue (covers ss vs)) (values_of env es)
+  pub arguments_sound : (ss : List Sort) (es : List Expression) → (list_all is_calm es ≡ false → calm ≡ false) → IsTrue (arguments_kinded library d scope ss es)
+      → Sound calm (λ vs. IsTrue (covers ss vs)) (values_of env es)
   arguments_sound [] es less h = Safe-weaker (λ c k. k) (λ x k. refl) (rest_sound es less h)
   arguments_sound (s ∷ ss) [] less h = cc
   arguments_sound (s ∷ ss) (e ∷ es) less h =
@@ -89,19 +99,24 @@ AreAssigned fields (a ∷ as') [] = ⊥
 AreAssigned fields (a ∷ as') (g ∷ gs) = ((a.field ≡ g.0) × IsAssigned fields g.0 g.1) × AreAssigned fields as' gs
 
 module _ (library : Library) (d : Declared) (scope : Scope) (env : Environment) (typed : EnvironmentTyped library d scope env) (calm : Bool) where
-  given_sound : (fields : List Field) (x : Name) (known : Option Kind) (e : Expression) → (is_calm e ≡ false → calm ≡ false) → kind_in fields x ≡ known → is_given known (sort_of library d scope e) ≡ true → Sound calm (IsAssigned fields x) (value_of env e)
+  given_sound : (fields : List Field) (x : Name) (known : Option Kind) (e : Expression) → (is_calm e ≡ false → calm ≡ false) → kind_in fields x ≡ known
+      → is_given known (sort_of library d scope e) ≡ true → Sound calm (IsAssigned fields x) (value_of env e)
   given_sound fields x None e less is h = cc
   given_sound fields x (Some k) e less is h = Safe-weaker (λ c k. k) (λ v hv. (k, is, hv)) (kind_sound library d scope env typed calm k e less h)
 
-  pub assigned_sound : (fields : List Field) (pairs : List Assignment) → (list_all (λ (a : Assignment). is_calm a.value) pairs ≡ false → calm ≡ false) → IsTrue (assignments_kinded library d scope fields pairs) → Sound calm (AreAssigned fields pairs) (assigned env pairs)
+  pub assigned_sound : (fields : List Field) (pairs : List Assignment) → (list_all (λ (a : Assignment). is_calm a.value) pairs ≡ false → calm ≡ false)
+      → IsTrue (assignments_kinded library d scope fields pairs) → Sound calm (AreAssigned fields pairs) (assigned env pairs)
   assigned_sound fields [] less h = Safe-value [] tt
   assigned_sound fields (a ∷ more) less h =
       let parts = and_parts (is_given (kind_in fields a.field) (sort_of library d scope a.value)) (assignments_kinded library d scope fields more) h in
       Safe-then (given_sound fields a.field (kind_in fields a.field) a.value (λ k. less (not_first (is_calm a.value) (list_all (λ (b : Assignment). is_calm b.value) more) k)) refl parts.0) λ v hv.
-      Safe-then (assigned_sound fields more (λ k. less (not_second (is_calm a.value) (list_all (λ (b : Assignment). is_calm b.value) more) k)) parts.1) λ vs hvs. Safe-value ((a.field, v) ∷ vs) ((refl, hv), hvs)
+      Safe-then (assigned_sound fields more (λ k. less (not_second (is_calm a.value) (list_all (λ (b : Assignment). is_calm b.value) more) k)) parts.1)
+      λ vs hvs. Safe-value ((a.field, v) ∷ vs) ((refl, hv), hvs)
 
-  pub row_sound : (P : Row → Type 0) (key : Expression) (pairs : List Assignment) (fields : List Field) (check : Row → Outcome Row) → ((is_calm key && list_all (λ (a : Assignment). is_calm a.value) pairs) ≡ false → calm ≡ false) → is_only integer_kind (sort_of library d scope key) ≡ true
-      → IsTrue (assignments_kinded library d scope fields pairs) → ((given : Row) → AreAssigned fields pairs given → Sound calm (λ _. ⊤) (check given)) → Sound calm (λ _. ⊤) (keyed_row env key pairs check)
+  pub row_sound : (P : Row → Type 0) (key : Expression) (pairs : List Assignment) (fields : List Field) (check : Row → Outcome Row)
+      → ((is_calm key && list_all (λ (a : Assignment). is_calm a.value) pairs) ≡ false → calm ≡ false) → is_only integer_kind (sort_of library d scope key) ≡ true
+      → IsTrue (assignments_kinded library d scope fields pairs) → ((given : Row) → AreAssigned fields pairs given → Sound calm (λ _. ⊤) (check given))
+      → Sound calm (λ _. ⊤) (keyed_row env key pairs check)
   row_sound P key pairs fields check less h k checks =
       Safe-then (kind_sound library d scope env typed calm integer_kind key (λ k. less (not_first (is_calm key) (list_all (λ (a : Assignment). is_calm a.value) pairs) k)) h) λ v hv.
       Safe-then (assigned_sound fields pairs (λ z. less (not_second (is_calm key) (list_all (λ (a : Assignment). is_calm a.value) pairs) z)) k) λ given hgiven.
@@ -131,7 +146,8 @@ field_given fields f (a ∷ more) (g ∷ gs) e h =
     found_choice fields f (bytes_eq f a.field) (bytes_eq f g.0) g (list_any (λ (b : Assignment). bytes_eq f b.field) more) (lookup (bytes_eq f) gs) (ap (bytes_eq f) h.0.0) (one_name f g.0) h.0.1 e
     (λ rest. field_given fields f more gs rest h.1)
 
-pub made_sound : (calm : Bool) (fields fs : List Field) (pairs : List Assignment) (given : Row) → KindsAre fields fs → IsTrue (all_assigned fs pairs) → AreAssigned fields pairs given → Sound calm (λ _. ⊤) (made_row fs given)
+pub made_sound : (calm : Bool) (fields fs : List Field) (pairs : List Assignment) (given : Row) → KindsAre fields fs → IsTrue (all_assigned fs pairs)
+    → AreAssigned fields pairs given → Sound calm (λ _. ⊤) (made_row fs given)
 made_sound calm fields [] pairs given kinds all h = Safe-value [] tt
 made_sound calm fields (f ∷ fs) pairs given kinds all h =
     let parts = and_parts (list_any (λ (a : Assignment). bytes_eq f.name a.field) pairs) (all_assigned fs pairs) all in
@@ -160,14 +176,16 @@ checked_sound calm fields (a ∷ more) (g ∷ gs) h =
 abbrev pub RowsOf : Library → ℕ → List KeyedRow → Type 0
 RowsOf library class rows = AllByRecursion (λ (r : KeyedRow). KeyedOf library class r) rows
 
-kept_of : (library : Library) (class : ℕ) (keep : Bool) (r : KeyedRow) (rest : List KeyedRow) → KeyedOf library class r → RowsOf library class rest → RowsOf library class (if keep then r ∷ rest else rest)
+kept_of : (library : Library) (class : ℕ) (keep : Bool) (r : KeyedRow) (rest : List KeyedRow) → KeyedOf library class r → RowsOf library class rest
+    → RowsOf library class (if keep then r ∷ rest else rest)
 kept_of library class true r rest h k = (h, k)
 kept_of library class false r rest h k = k
 
 chosen_of : (library : Library) (class : ℕ) (b : Bool) (o : ObjectName × Row) (os : Objects) → (b ≡ true → o.0.class ≡ class) → IsTrue (object_fits library o.0.class o.0.key o.1)
     → RowsOf library class (map (λ (x : ObjectName × Row). record { key = x.0.key; row = x.1 }) os)
     → RowsOf library class (map (λ (x : ObjectName × Row). record { key = x.0.key; row = x.1 }) (cond b (o ∷ os) os))
-chosen_of library class true o os same h k = (subst (λ n. KeyedOf library n (record { key = o.0.key; row = o.1 })) (same refl) (object_row library (record { signatures = []; fired = [] }) o.0.class o.0.key o.1 h), k)
+chosen_of library class true o os same h k =
+    (subst (λ n. KeyedOf library n (record { key = o.0.key; row = o.1 })) (same refl) (object_row library (record { signatures = []; fired = [] }) o.0.class o.0.key o.1 h), k)
 chosen_of library class false o os same h k = k
 
 -- the rows of a class have its fields
@@ -182,7 +200,8 @@ pub bound_typed : (library : Library) (d : Declared) (x : Name) (class : ℕ) (r
 bound_typed library d x class r scope env h typed = record { columns = typed.columns; parts = typed.parts; rows = ((refl, h), typed.rows); values = typed.values; now = typed.now }
 
 pub selected_sound : (library : Library) (d : Declared) (x : Name) (class : ℕ) (predicate : Expression) (scope : Scope) (env : Environment) → EnvironmentTyped library d scope env
-    → is_only boolean_kind (sort_of library d (with_name x class scope) predicate) ≡ true → (rows : List KeyedRow) → RowsOf library class rows → Safe (FaultOf (is_calm predicate)) (RowsOf library class) (selected env x predicate rows)
+    → is_only boolean_kind (sort_of library d (with_name x class scope) predicate) ≡ true → (rows : List KeyedRow) → RowsOf library class rows
+    → Safe (FaultOf (is_calm predicate)) (RowsOf library class) (selected env x predicate rows)
 selected_sound library d x class predicate scope env typed e [] h = Safe-value [] tt
 selected_sound library d x class predicate scope env typed e (r ∷ rs) h =
     Safe-then (Safe-weaker (λ c k. (not_of_kinds c k.0, k.1)) (λ v k. k) (only_gives boolean_kind (sort_of library d (with_name x class scope) predicate) (value_of (bound x r env) predicate)
@@ -191,11 +210,13 @@ selected_sound library d x class predicate scope env typed e (r ∷ rs) h =
     Safe-then (selected_sound library d x class predicate scope env typed e rs h.1) λ rest hrest. Safe-value (if keep then r ∷ rest else rest) (kept_of library class keep r rest h.0 hrest)
 
 pub answer_sound : (library : Library) (d : Declared) (x : Name) (class : ℕ) (predicate : Expression) (scope : Scope) (env : Environment) → EnvironmentTyped library d scope env
-    → is_only boolean_kind (sort_of library d (with_name x class scope) predicate) ≡ true → (objects : Objects) → ObjectsFit library objects → Safe (FaultOf (is_calm predicate)) (RowsOf library class) (answer env x class predicate objects)
+    → is_only boolean_kind (sort_of library d (with_name x class scope) predicate) ≡ true → (objects : Objects) → ObjectsFit library objects
+    → Safe (FaultOf (is_calm predicate)) (RowsOf library class) (answer env x class predicate objects)
 answer_sound library d x class predicate scope env typed e objects h = selected_sound library d x class predicate scope env typed e (rows_of class objects) (rows_of_class library class objects h)
 
 -- one more value
-pub holding_typed : (library : Library) (d : Declared) (x : Name) (s : Sort) (v : Value) (scope : Scope) (env : Environment) → IsTrue (has_sort s v) → EnvironmentTyped library d scope env → EnvironmentTyped library d (with_sort x s scope) (holding x v env)
+pub holding_typed : (library : Library) (d : Declared) (x : Name) (s : Sort) (v : Value) (scope : Scope) (env : Environment) → IsTrue (has_sort s v)
+    → EnvironmentTyped library d scope env → EnvironmentTyped library d (with_sort x s scope) (holding x v env)
 holding_typed library d x s v scope env h typed = record { columns = typed.columns; parts = typed.parts; rows = typed.rows; values = ((refl, h), typed.values); now = typed.now }
 
 -- ---- aggregates
@@ -221,13 +242,15 @@ merged_sound library class C P merge env x predicate term merges test give so_fa
     step false = Safe-value so_far h
 
 -- the predicate of an aggregate or of a query
-test_sound : (library : Library) (d : Declared) (x : Name) (class : ℕ) (predicate : Expression) (scope : Scope) (env : Environment) → EnvironmentTyped library d scope env → is_test library d scope x class predicate ≡ true
+test_sound : (library : Library) (d : Declared) (x : Name) (class : ℕ) (predicate : Expression) (scope : Scope) (env : Environment) → EnvironmentTyped library d scope env
+    → is_test library d scope x class predicate ≡ true
     → (r : KeyedRow) → KeyedOf library class r → Safe (FaultOf (is_calm predicate)) (IsOf boolean_kind) (value_of (bound x r env) predicate)
 test_sound library d x class predicate scope env typed e r h =
     Safe-weaker (λ c k. (not_of_kinds c k.0, k.1)) (λ v k. k) (only_gives boolean_kind (sort_of library d (with_name x class scope) predicate) (value_of (bound x r env) predicate)
     (value_typed library d (with_name x class scope) (bound x r env) (bound_typed library d x class r scope env h typed) predicate) e)
 
-term_sound : (library : Library) (d : Declared) (x : Name) (class : ℕ) (term : Expression) (k : Kind) (scope : Scope) (env : Environment) → EnvironmentTyped library d scope env → sort_of library d (with_name x class scope) term ≡ Some (only k)
+term_sound : (library : Library) (d : Declared) (x : Name) (class : ℕ) (term : Expression) (k : Kind) (scope : Scope) (env : Environment)
+    → EnvironmentTyped library d scope env → sort_of library d (with_name x class scope) term ≡ Some (only k)
     → (r : KeyedRow) → KeyedOf library class r → Safe (FaultOf (is_calm term)) (IsOf k) (value_of (bound x r env) term)
 term_sound library d x class term k scope env typed e r h =
     Safe-weaker (λ c z. (not_of_kinds c z.0, z.1)) (λ v z. z) (value_typed library d (with_name x class scope) (bound x r env) (bound_typed library d x class r scope env h typed) term (only k) e)
@@ -254,7 +277,8 @@ preferred_sound C op k compares None v h l = Safe-then (compares v v l l) λ _ _
 preferred_sound C op k compares (Some w) v h l = Safe-then (compares v w l h) λ b _. Safe-value (if b then v else w) (either_of k b v w l h)
 
 -- what a sort of integers or texts is
-ordered_is : (C : Cause → Type 0) (o : Option Sort) (s : Sort) → ordered o ≡ Some s → (P : Type 0) → ((k : Kind) → o ≡ Some (only k) → s ≡ only k → Compares C E.less k → Compares C E.greater k → P) → P
+ordered_is : (C : Cause → Type 0) (o : Option Sort) (s : Sort) → ordered o ≡ Some s → (P : Type 0)
+    → ((k : Kind) → o ≡ Some (only k) → s ≡ only k → Compares C E.less k → Compares C E.greater k → P) → P
 ordered_is C o s e P next =
     let is = some_if (are_ordered o o) (unwrap_or o any) s e in
     either_is (is_only integer_kind o && is_only integer_kind o) (is_only text_kind o && is_only text_kind o) is.0 P
@@ -284,7 +308,8 @@ present_sound safe = Safe-then safe λ v h. Safe-value (Some v) h
 
 module _ (library : Library) (d : Declared) (scope : Scope) (env : Environment) (typed : EnvironmentTyped library d scope env) (objects : Objects) (fit : ObjectsFit library objects) where
   -- the least or the greatest
-  extreme_sound : (op : Comparison) (k : Kind) (x : Name) (class : ℕ) (predicate term : Expression) → Compares (FaultOf (is_calm predicate && is_calm term)) op k → is_test library d scope x class predicate ≡ true → sort_of library d (with_name x class scope) term ≡ Some (only k)
+  extreme_sound : (op : Comparison) (k : Kind) (x : Name) (class : ℕ) (predicate term : Expression) → Compares (FaultOf (is_calm predicate && is_calm term)) op k
+      → is_test library d scope x class predicate ≡ true → sort_of library d (with_name x class scope) term ≡ Some (only k)
       → Safe (FaultOf (is_calm predicate && is_calm term)) (Held (IsOf k)) (merged (preferred op) env x predicate term None (rows_of class objects))
   extreme_sound op k x class predicate term compares e f =
       merged_sound library class (FaultOf (is_calm predicate && is_calm term)) (IsOf k) (preferred op) env x predicate term
@@ -306,7 +331,8 @@ module _ (library : Library) (d : Declared) (scope : Scope) (env : Environment) 
       (Safe-then
       (merged_sound library class (FaultOf false) (IsOf integer_kind) added env x predicate term added_sound
       (λ r h. Safe-weaker (λ c z. (z.0, refl)) (λ v z. z) (test_sound library d x class predicate scope env typed parts.0 r h))
-      (λ r h. Safe-weaker (λ c z. (z.0, refl)) (λ v z. z) (term_sound library d x class term integer_kind scope env typed (only_is integer_kind (sort_of library d (with_name x class scope) term) parts.1) r h))
+      (λ r h. Safe-weaker (λ c z. (z.0, refl)) (λ v z. z) (term_sound library d x class term integer_kind scope env typed
+      (only_is integer_kind (sort_of library d (with_name x class scope) term) parts.1) r h))
       None (rows_of class objects) tt (rows_of_class library class objects fit))
       λ sum hsum. Safe-value (Some (unwrap_or sum (integer (pos 0)))) (sum_of sum hsum))
   aggregated_sound (least_over x class predicate term) s e =
@@ -368,13 +394,15 @@ VerdictTyped library qs ss calm (satisfied found) = FindingsTyped library qs ss 
 VerdictTyped library qs ss calm unsatisfied = ⊤
 VerdictTyped library qs ss calm (faulty c) = FaultOf calm c
 
-keeping_typed : (library : Library) (q : Name × ℕ) (qs : List (Name × ℕ)) (ss : List (Name × Sort)) (first rest : Bool) (rows : List KeyedRow) (v : Verdict) → IsAnswer library q.1 rows → VerdictTyped library qs ss rest v
+keeping_typed : (library : Library) (q : Name × ℕ) (qs : List (Name × ℕ)) (ss : List (Name × Sort)) (first rest : Bool) (rows : List KeyedRow) (v : Verdict)
+    → IsAnswer library q.1 rows → VerdictTyped library qs ss rest v
     → VerdictTyped library (q ∷ qs) ss (first && rest) (keeping q.0 rows v)
 keeping_typed library q qs ss first rest rows (satisfied found) h k = (((refl, h), k.0), k.1)
 keeping_typed library q qs ss first rest rows unsatisfied h k = tt
 keeping_typed library q qs ss first rest rows (faulty c) h k = (k.0, not_second first rest k.1)
 
-keeping_value_typed : (library : Library) (qs : List (Name × ℕ)) (x : Name) (s : Sort) (ss : List (Name × Sort)) (first rest : Bool) (v : Value) (w : Verdict) → HasSort s v → VerdictTyped library qs ss rest w
+keeping_value_typed : (library : Library) (qs : List (Name × ℕ)) (x : Name) (s : Sort) (ss : List (Name × Sort)) (first rest : Bool) (v : Value) (w : Verdict)
+    → HasSort s v → VerdictTyped library qs ss rest w
     → VerdictTyped library qs ((x, s) ∷ ss) (first && rest) (keeping_value x v w)
 keeping_value_typed library qs x s ss first rest v (satisfied found) h k = (k.0, ((refl, h), k.1))
 keeping_value_typed library qs x s ss first rest v unsatisfied h k = tt
@@ -385,19 +413,22 @@ later_typed library qs ss first rest (satisfied found) k = k
 later_typed library qs ss first rest unsatisfied k = tt
 later_typed library qs ss first rest (faulty c) k = (k.0, not_second first rest k.1)
 
-answered_typed : (library : Library) (q : Name × ℕ) (qs : List (Name × ℕ)) (ss : List (Name × Sort)) (first rest : Bool) (o : Outcome (List KeyedRow)) (next : KeyedRow → Verdict) → Safe (FaultOf first) (RowsOf library q.1) o
+answered_typed : (library : Library) (q : Name × ℕ) (qs : List (Name × ℕ)) (ss : List (Name × Sort)) (first rest : Bool) (o : Outcome (List KeyedRow)) (next : KeyedRow → Verdict)
+    → Safe (FaultOf first) (RowsOf library q.1) o
     → ((r : KeyedRow) → KeyedOf library q.1 r → VerdictTyped library qs ss rest (next r)) → VerdictTyped library (q ∷ qs) ss (first && rest) (if_answered q.0 o next)
 answered_typed library q qs ss first rest (Err c) next safe k = let is = safe.cause c refl in (is.0, not_first first rest is.1)
 answered_typed library q qs ss first rest (Ok []) next safe k = tt
 answered_typed library q qs ss first rest (Ok (r ∷ rs)) next safe k = let rows = safe.value (r ∷ rs) refl in keeping_typed library q qs ss first rest (r ∷ rs) (next r) rows (k r rows.0)
 
-unanswered_typed : (library : Library) (class : ℕ) (qs : List (Name × ℕ)) (ss : List (Name × Sort)) (first rest : Bool) (o : Outcome (List KeyedRow)) (next : Verdict) → Safe (FaultOf first) (RowsOf library class) o
+unanswered_typed : (library : Library) (class : ℕ) (qs : List (Name × ℕ)) (ss : List (Name × Sort)) (first rest : Bool) (o : Outcome (List KeyedRow)) (next : Verdict)
+    → Safe (FaultOf first) (RowsOf library class) o
     → VerdictTyped library qs ss rest next → VerdictTyped library qs ss (first && rest) (if_unanswered o next)
 unanswered_typed library class qs ss first rest (Err c) next safe k = let is = safe.cause c refl in (is.0, not_first first rest is.1)
 unanswered_typed library class qs ss first rest (Ok []) next safe k = later_typed library qs ss first rest next k
 unanswered_typed library class qs ss first rest (Ok (r ∷ rs)) next safe k = tt
 
-valued_typed : (library : Library) (qs : List (Name × ℕ)) (x : Name) (s : Sort) (ss : List (Name × Sort)) (first rest : Bool) (o : Outcome (Option Value)) (next : Value → Verdict) → Safe (FaultOf first) (Held (HasSort s)) o
+valued_typed : (library : Library) (qs : List (Name × ℕ)) (x : Name) (s : Sort) (ss : List (Name × Sort)) (first rest : Bool) (o : Outcome (Option Value)) (next : Value → Verdict)
+    → Safe (FaultOf first) (Held (HasSort s)) o
     → ((v : Value) → HasSort s v → VerdictTyped library qs ss rest (next v)) → VerdictTyped library qs ((x, s) ∷ ss) (first && rest) (if_valued x o next)
 valued_typed library qs x s ss first rest (Err c) next safe k = let is = safe.cause c refl in (is.0, not_first first rest is.1)
 valued_typed library qs x s ss first rest (Ok None) next safe k = tt
@@ -408,17 +439,20 @@ pub verdict_typed : (library : Library) (d : Declared) (objects : Objects) (scop
 verdict_typed library d objects scope env [] fit typed h = (tt, tt)
 verdict_typed library d objects scope env (query_entry q ∷ es) fit typed h =
     let parts = and_parts (is_test library d scope q.name q.class q.predicate) (entries_kinded library d (with_name q.name q.class scope) es) h in
-    answered_typed library (q.name, q.class) (query_classes es) (let_sorts library d (with_name q.name q.class scope) es) (is_calm q.predicate) (is_condition_calm es) (answer env q.name q.class q.predicate objects) (λ first. verdict objects (bound q.name first env) es)
+    answered_typed library (q.name, q.class) (query_classes es) (let_sorts library d (with_name q.name q.class scope) es) (is_calm q.predicate)
+    (is_condition_calm es) (answer env q.name q.class q.predicate objects) (λ first. verdict objects (bound q.name first env) es)
     (answer_sound library d q.name q.class q.predicate scope env typed parts.0 objects fit)
     (λ first row. verdict_typed library d objects (with_name q.name q.class scope) (bound q.name first env) es fit (bound_typed library d q.name q.class first scope env row typed) parts.1)
 verdict_typed library d objects scope env (no_entry q ∷ es) fit typed h =
     let parts = and_parts (is_test library d scope q.name q.class q.predicate) (entries_kinded library d scope es) h in
-    unanswered_typed library q.class (query_classes es) (let_sorts library d scope es) (is_calm q.predicate) (is_condition_calm es) (answer env q.name q.class q.predicate objects) (verdict objects env es)
+    unanswered_typed library q.class (query_classes es) (let_sorts library d scope es) (is_calm q.predicate) (is_condition_calm es) (answer env q.name q.class q.predicate objects)
+    (verdict objects env es)
     (answer_sound library d q.name q.class q.predicate scope env typed parts.0 objects fit) (verdict_typed library d objects scope env es fit typed parts.1)
 verdict_typed library d objects scope env (let_entry x a ∷ es) fit typed h =
     let s = unwrap_or (aggregate_sort library d scope a) any in
     let is = sorted_is (aggregate_sort library d scope a) (λ t. entries_kinded library d (with_sort x t scope) es) h in
-    valued_typed library (query_classes es) x s (let_sorts library d (with_sort x s scope) es) (is_aggregate_calm a) (is_condition_calm es) (aggregated objects env a) (λ v. verdict objects (holding x v env) es)
+    valued_typed library (query_classes es) x s (let_sorts library d (with_sort x s scope) es) (is_aggregate_calm a) (is_condition_calm es) (aggregated objects env a)
+    (λ v. verdict objects (holding x v env) es)
     (aggregated_sound library d scope env typed objects fit a s is.0)
     (λ v hv. verdict_typed library d objects (with_sort x s scope) (holding x v env) es fit (holding_typed library d x s v scope env hv typed) is.1)
 
@@ -446,7 +480,8 @@ rows_first library d (let_entry x a ∷ es) scope =
     let s = unwrap_or (aggregate_sort library d scope a) any in
     rows_first library d es (with_sort x s scope) ∙ ap (with_sorts (let_sorts library d (with_sort x s scope) es)) (sort_first (query_classes es) x s scope)
 
-one_bound : (library : Library) (d : Declared) (q : Name × ℕ) (qs : List (Name × ℕ)) (x : Name) (rows : List KeyedRow) (more : Answers) (scope : Scope) (env : Environment) → q.0 ≡ x → IsAnswer library q.1 rows
+one_bound : (library : Library) (d : Declared) (q : Name × ℕ) (qs : List (Name × ℕ)) (x : Name) (rows : List KeyedRow) (more : Answers) (scope : Scope) (env : Environment)
+    → q.0 ≡ x → IsAnswer library q.1 rows
     → EnvironmentTyped library d scope env
     → ((inner : Environment) → EnvironmentTyped library d (with_name q.0 q.1 scope) inner → EnvironmentTyped library d (with_rows qs (with_name q.0 q.1 scope)) (with_answers inner more))
     → EnvironmentTyped library d (with_rows qs (with_name q.0 q.1 scope)) (with_answers env ((x, rows) ∷ more))
@@ -454,7 +489,8 @@ one_bound library d q qs x [] more scope env same h typed next = absurd h
 one_bound library d q qs x (r ∷ rs) more scope env same h typed next =
     next (bound x r env) (record { columns = typed.columns; parts = typed.parts; rows = ((same, h.0), typed.rows); values = typed.values; now = typed.now })
 
-answers_typed : (library : Library) (d : Declared) (qs : List (Name × ℕ)) (answers : Answers) (scope : Scope) (env : Environment) → AnswersTyped library qs answers → EnvironmentTyped library d scope env
+answers_typed : (library : Library) (d : Declared) (qs : List (Name × ℕ)) (answers : Answers) (scope : Scope) (env : Environment) → AnswersTyped library qs answers
+    → EnvironmentTyped library d scope env
     → EnvironmentTyped library d (with_rows qs scope) (with_answers env answers)
 answers_typed library d [] [] scope env h typed = typed
 answers_typed library d [] (a ∷ more) scope env h typed = absurd h
@@ -472,7 +508,8 @@ values_typed library d (s ∷ ss) (v ∷ vs) scope env h typed =
     (record { columns = typed.columns; parts = typed.parts; rows = typed.rows; values = (h.0, typed.values); now = typed.now })
 
 -- with all that its condition found
-pub findings_typed : (library : Library) (d : Declared) (es : List Entry) (found : Findings) (scope : Scope) (env : Environment) → FindingsTyped library (query_classes es) (let_sorts library d scope es) found
+pub findings_typed : (library : Library) (d : Declared) (es : List Entry) (found : Findings) (scope : Scope) (env : Environment)
+    → FindingsTyped library (query_classes es) (let_sorts library d scope es) found
     → EnvironmentTyped library d scope env → EnvironmentTyped library d (with_entries library d scope es) (with_findings env found)
 findings_typed library d es found scope env h typed =
     subst (λ (t : Scope). EnvironmentTyped library d t (with_findings env found)) (sym (rows_first library d es scope))
@@ -484,30 +521,36 @@ answer_rows : (library : Library) (class : ℕ) (rows : List KeyedRow) → IsAns
 answer_rows library class [] h = tt
 answer_rows library class (r ∷ rs) h = h
 
-answer_choice : (library : Library) (b c : Bool) (class : ℕ) (rows : List KeyedRow) (known : Option ℕ) (found : Option (List KeyedRow)) → b ≡ c → RowsOf library class rows → RowsOf library (unwrap_or known 0) (unwrap_or found [])
+answer_choice : (library : Library) (b c : Bool) (class : ℕ) (rows : List KeyedRow) (known : Option ℕ) (found : Option (List KeyedRow)) → b ≡ c
+    → RowsOf library class rows → RowsOf library (unwrap_or known 0) (unwrap_or found [])
     → RowsOf library (unwrap_or (cond b (Some class) known) 0) (unwrap_or (cond c (Some rows) found) [])
 answer_choice library true true class rows known found same h k = h
 answer_choice library true false class rows known found same h k = cc
 answer_choice library false true class rows known found same h k = cc
 answer_choice library false false class rows known found same h k = k
 
-pub answer_named_typed : (library : Library) (x : Name) (qs : List (Name × ℕ)) (answers : Answers) → AnswersTyped library qs answers → RowsOf library (unwrap_or (lookup (bytes_eq x) qs) 0) (unwrap_or (lookup (bytes_eq x) answers) [])
+pub answer_named_typed : (library : Library) (x : Name) (qs : List (Name × ℕ)) (answers : Answers) → AnswersTyped library qs answers
+    → RowsOf library (unwrap_or (lookup (bytes_eq x) qs) 0) (unwrap_or (lookup (bytes_eq x) answers) [])
 answer_named_typed library x [] [] h = tt
 answer_named_typed library x [] (a ∷ more) h = absurd h
 answer_named_typed library x (q ∷ qs) [] h = absurd h
 answer_named_typed library x (q ∷ qs) (a ∷ more) h =
-    answer_choice library (bytes_eq x q.0) (bytes_eq x a.0) q.1 a.1 (lookup (bytes_eq x) qs) (lookup (bytes_eq x) more) (ap (bytes_eq x) h.0.0) (answer_rows library q.1 a.1 h.0.1) (answer_named_typed library x qs more h.1)
+    answer_choice library (bytes_eq x q.0) (bytes_eq x a.0) q.1 a.1 (lookup (bytes_eq x) qs) (lookup (bytes_eq x) more) (ap (bytes_eq x) h.0.0)
+    (answer_rows library q.1 a.1 h.0.1) (answer_named_typed library x qs more h.1)
 
 -- ---- objects and rules that statements name
 
-pub object_sound : (library : Library) (d : Declared) (scope : Scope) (env : Environment) → EnvironmentTyped library d scope env → (calm : Bool) (objects : Objects) (class : ℕ) (key : Expression) → (is_calm key ≡ false → calm ≡ false) → ObjectsFit library objects
+pub object_sound : (library : Library) (d : Declared) (scope : Scope) (env : Environment) → EnvironmentTyped library d scope env
+    → (calm : Bool) (objects : Objects) (class : ℕ) (key : Expression) → (is_calm key ≡ false → calm ≡ false) → ObjectsFit library objects
     → is_only integer_kind (sort_of library d scope key) ≡ true → Sound calm (λ (r : KeyedRow). KeyedOf library class r) (named_object objects env class key)
 object_sound library d scope env typed calm objects class key less fit h =
     Safe-then (integer_sound library d scope env typed calm key less h) λ k _.
-    Safe-then {P = λ row. KeyedOf library class (record { key = k; row = row })} (row_or k (find_object objects class k) (λ row e. object_row library d class k row (found_fit library class k objects row fit e))) λ row hrow.
+    Safe-then {P = λ row. KeyedOf library class (record { key = k; row = row })}
+    (row_or k (find_object objects class k) (λ row e. object_row library d class k row (found_fit library class k objects row fit e))) λ row hrow.
     Safe-value (record { key = k; row = row }) hrow
   where
-    row_or : (k : ℤ) (o : Option Row) → ((row : Row) → o ≡ Some row → KeyedOf library class (record { key = k; row = row })) → Sound calm (λ row. KeyedOf library class (record { key = k; row = row })) (or_cause o missing)
+    row_or : (k : ℤ) (o : Option Row) → ((row : Row) → o ≡ Some row → KeyedOf library class (record { key = k; row = row }))
+        → Sound calm (λ row. KeyedOf library class (record { key = k; row = row })) (or_cause o missing)
     row_or k None next = Safe-cause missing (tt, λ e. cc)
     row_or k (Some row) next = Safe-value row (next row refl)
 

@@ -11,10 +11,13 @@ use Rattle.hp_model.specs.Rules.{Coupling, immediate, deferred, separate, depend
 use Rattle.hp_model.specs.State.{State, initial_state, with_status, absent, RuleState}
 use Rattle.hp_model.specs.Tree.{Task, Ending, committed, aborted, Step, condition_step, action_step, Node, sub_node, fire_node, act_node, without_action, with_fault, with_action, with_later_action}
 use Rattle.hp_model.specs.Transactions.{Detached, End, done, abort_by, veto_by, Course, Work, then_do, drained, placed, Closed, closed, closed_by}
-use Rattle.hp_model.specs.Firing.{Fire, siblings, course_of, signal_in, run_action, follow, decide, take_step, below_limit, level_at, fire_task, deferring, inert, fault_veto, action_course, action_context, action_task, task_environment, nested}
-use Rattle.hp_model.specs.Cascade.{Unit, now_in, transaction, moment, no_context, unit_work, task_work, most_rounds, next_round, rounds, top_course, top, veto_end, Transaction, generation, due_by, due, cascade, run_unit, run_units, transactions_of}
+use Rattle.hp_model.specs.Firing.{Fire, siblings, course_of, signal_in, run_action, follow, decide, take_step, below_limit, level_at, fire_task, deferring, inert, fault_veto}
+use Rattle.hp_model.specs.Firing.{action_course, action_context, action_task, task_environment, nested}
+use Rattle.hp_model.specs.Cascade.{Unit, now_in, transaction, moment, no_context, unit_work, task_work, most_rounds, next_round, rounds, top_course, top, veto_end, Transaction}
+use Rattle.hp_model.specs.Cascade.{generation, due_by, due, cascade, run_unit, run_units, transactions_of}
 use Rattle.hp_model.specs.Ranges.{entry_fits, body_fits, unit_fits, IsFitLibrary}
-use Rattle.hp_model.specs.Kinds.{Declared, is_declared, is_fired, Scope, no_scope, entries_kinded, with_entries, query_classes, is_condition_calm, rule_scope, rule_kinded, rules_kinded, library_kinded, body_kinded, unit_kinded, is_body_calm, is_node_calm, NotOfKinds, CauseOf, KindedCause, KindsHold, NeverOfKinds}
+use Rattle.hp_model.specs.Kinds.{Declared, is_declared, is_fired, Scope, no_scope, entries_kinded, with_entries, query_classes, is_condition_calm, rule_scope, rule_kinded}
+use Rattle.hp_model.specs.Kinds.{rules_kinded, library_kinded, body_kinded, unit_kinded, is_body_calm, is_node_calm, NotOfKinds, CauseOf, KindedCause, KindsHold, NeverOfKinds}
 use Rattle.hp_model.specs.Endings.{EndsOnlyBy, NodeHasOnly, TreeHasOnly, TransactionsHaveOnly, ReportHasOnly}
 use Rattle.hp_model.proofs.Endings.{reports_only}
 use Rattle.hp_model.proofs.Induction.{firing_course}
@@ -24,7 +27,8 @@ use Rattle.hp_model.proofs.FitCourses.{at_level, StepFits}
 use Rattle.hp_model.proofs.FitUnits.{VerdictFits, verdict_fits, findings_bound, rule_at_fits}
 use Rattle.hp_model.proofs.KindValues.{EnvironmentTyped}
 use Rattle.hp_model.proofs.KindRows.{FindingsTyped, let_sorts, VerdictTyped, verdict_typed, findings_typed}
-use Rattle.hp_model.proofs.KindCourses.{IsTimely, IsKindedEnd, weaker_course, Good, OccurredWell, StepTyped, TaskTyped, TasksTyped, DetachedTyped, CourseTyped, WorkTyped, FireTyped, BelowTyped, ContextTyped, joined_typed, then_do_typed, closed_typed, placed_typed, siblings_typed, signal_typed, body_typed}
+use Rattle.hp_model.proofs.KindCourses.{IsTimely, IsKindedEnd, weaker_course, Good, OccurredWell, StepTyped, TaskTyped, TasksTyped, DetachedTyped, CourseTyped, WorkTyped}
+use Rattle.hp_model.proofs.KindCourses.{FireTyped, BelowTyped, ContextTyped, joined_typed, then_do_typed, closed_typed, placed_typed, siblings_typed, signal_typed, body_typed}
 
 -- how a top-level transaction ends, without what is said of arithmetic
 ending_kinded : (e : Ending) → EndsOnlyBy (CauseOf false) e → EndsOnlyBy NotOfKinds e
@@ -33,7 +37,8 @@ ending_kinded (aborted c) h = h.0
 
 -- ---- the rules by their numbers
 
-kinded_from : (library : Library) (d : Declared) (n : ℕ) (rules : List Rule) (m : ℕ) → IsTrue (rules_kinded library d n rules) → IsTrue (rule_kinded library d (is_fired d (m + n)) (slice_index_or rules m no_rule))
+kinded_from : (library : Library) (d : Declared) (n : ℕ) (rules : List Rule) (m : ℕ) → IsTrue (rules_kinded library d n rules)
+    → IsTrue (rule_kinded library d (is_fired d (m + n)) (slice_index_or rules m no_rule))
 kinded_from library d n [] m h = refl
 kinded_from library d n (r ∷ rs) zero h =
     let same : n ≡ 0 + n = omega arith in
@@ -56,7 +61,8 @@ module _ (library : Library) (d : Declared) (known : IsFitLibrary library) (kind
   rule_parts : (n : ℕ) → IsTrue (entries_kinded library d (scope_at n) (rule_at library n).condition)
       × IsTrue (body_kinded library d (with_entries library d (scope_at n) (rule_at library n).condition) (query_classes (rule_at library n).condition) (rule_at library n).action)
   rule_parts n =
-      and_parts (entries_kinded library d (scope_at n) (rule_at library n).condition) (body_kinded library d (with_entries library d (scope_at n) (rule_at library n).condition) (query_classes (rule_at library n).condition) (rule_at library n).action)
+      and_parts (entries_kinded library d (scope_at n) (rule_at library n).condition)
+      (body_kinded library d (with_entries library d (scope_at n) (rule_at library n).condition) (query_classes (rule_at library n).condition) (rule_at library n).action)
       (kinded_at library d n kinded)
 
   action_fits : (n : ℕ) → IsTrue (body_fits (length library.classes) (rule_at library n).action)
@@ -91,12 +97,14 @@ module _ (library : Library) (d : Declared) (known : IsFitLibrary library) (kind
 
   -- ---- firings
 
-  run_action_typed : (what : Node) → NodeHasOnly (KindedCause library) what → (below : Option Fire) (t : Task) → is_node_calm library what ≡ is_body_calm (rule_at library t.rule).action → (found : Findings) (S : State) → BelowTyped library d below → Occurred t → FindingsFit found
+  run_action_typed : (what : Node) → NodeHasOnly (KindedCause library) what → (below : Option Fire) (t : Task) → is_node_calm library what ≡ is_body_calm (rule_at library t.rule).action
+      → (found : Findings) (S : State) → BelowTyped library d below → Occurred t → FindingsFit found
       → FoundTyped t.rule found → Good library d S → CourseTyped library d true (firing_course (run_action what (at_level library t.now t.depth below) t found S))
   run_action_typed what is below t same found S fires occurred fit h good =
       let c = action_course (at_level library t.now t.depth below) t found S in
       let course : CourseTyped library d (is_body_calm (rule_at library t.rule).action) c =
-      body_typed library d known t.now occurred.2 t.depth below fires (rule_at library t.rule).action (with_entries library d (scope_at t.rule) (rule_at library t.rule).condition) (query_classes (rule_at library t.rule).condition) (action_context t found)
+      body_typed library d known t.now occurred.2 t.depth below fires (rule_at library t.rule).action (with_entries library d (scope_at t.rule) (rule_at library t.rule).condition)
+      (query_classes (rule_at library t.rule).condition) (action_context t found)
       (action_fits t.rule) (rule_parts t.rule).1 (action_typed t found occurred fit h) S good in
       closed_typed library d c.end S c what done is tt (subst (λ b. IsKindedEnd b c.end) (sym same) course.end) good course
 
@@ -117,7 +125,9 @@ module _ (library : Library) (d : Declared) (known : IsFitLibrary library) (kind
   inert_typed : (what : Node) → NodeHasOnly (KindedCause library) what → (v : Option Veto) (S : State) → Good library d S → CourseTyped library d true (firing_course (inert what v S))
   inert_typed what is v S good = record { state = good; queued = tt; detached = tt; items = (((is, tt), tt), tt); end = tt }
 
-  decide_typed : (v : Verdict) (below : Option Fire) (t : Task) (S : State) → BelowTyped library d below → Occurred t → VerdictFits v → VerdictTyped library (query_classes (rule_at library t.rule).condition) (let_sorts library d (scope_at t.rule) (rule_at library t.rule).condition) (is_condition_calm (rule_at library t.rule).condition) v → Good library d S
+  decide_typed : (v : Verdict) (below : Option Fire) (t : Task) (S : State) → BelowTyped library d below → Occurred t → VerdictFits v
+      → VerdictTyped library (query_classes (rule_at library t.rule).condition) (let_sorts library d (scope_at t.rule) (rule_at library t.rule).condition)
+      (is_condition_calm (rule_at library t.rule).condition) v → Good library d S
       → CourseTyped library d true (firing_course (decide v (at_level library t.now t.depth below) t S))
   decide_typed (satisfied found) below t S fires occurred fit h good = follow_typed (rule_at library t.rule).action_coupling below t found S fires occurred fit h good
   decide_typed unsatisfied below t S fires occurred fit h good = inert_typed (fire_node t.rule t.place without_action) tt None S good
@@ -128,7 +138,8 @@ module _ (library : Library) (d : Declared) (known : IsFitLibrary library) (kind
   step_typed condition_step below t S fires fit occurred h good =
       decide_typed (verdict S.objects (task_environment t) (rule_at library t.rule).condition) below t S fires occurred
       (verdict_fits library S.objects (task_environment t) (rule_at library t.rule).condition (condition_fits t.rule) (occurred.0, tt, tt) (objects_of_fit library S good.fit))
-      (verdict_typed library d S.objects (scope_at t.rule) (task_environment t) (rule_at library t.rule).condition (objects_of_fit library S good.fit) (task_typed t occurred) (rule_parts t.rule).0) good
+      (verdict_typed library d S.objects (scope_at t.rule) (task_environment t) (rule_at library t.rule).condition (objects_of_fit library S good.fit)
+      (task_typed t occurred) (rule_parts t.rule).0) good
   step_typed (action_step found) below t S fires fit occurred h good = run_action_typed (act_node t.rule t.place) tt below t refl found S fires occurred fit h good
 
   below_typed : (n : ℕ) → BelowTyped library d (below_limit library n)
@@ -148,7 +159,8 @@ module _ (library : Library) (d : Declared) (known : IsFitLibrary library) (kind
   unit_work_typed (transaction now body) fit h S good =
       let parts = and_parts (fits_64 (pos now)) (body_fits (length library.classes) body) fit in
       weaker_course library d (is_body_calm body) false (unit_work library (transaction now body) S) (λ e. refl)
-      (body_typed library d known now parts.0 0 (below_limit library (library.depth_limit - 0)) (below_typed (library.depth_limit - 0)) body no_scope [] (no_context now) parts.1 h (no_context_typed now parts.0) S good)
+      (body_typed library d known now parts.0 0 (below_limit library (library.depth_limit - 0)) (below_typed (library.depth_limit - 0)) body no_scope
+      [] (no_context now) parts.1 h (no_context_typed now parts.0) S good)
   unit_work_typed (moment t) fit h S good =
       signal_typed library d t fit 0 (below_limit library (library.depth_limit - 0)) (moment_reached t) (below_typed (library.depth_limit - 0)) (fit, refl) S good
 
@@ -164,7 +176,8 @@ module _ (library : Library) (d : Declared) (known : IsFitLibrary library) (kind
   next_round_typed : (e : End) (ts : List Task) (c : Course) → TasksTyped library d ts → CourseTyped library d false c → CourseTyped library d false (next_round (fire_task library) e ts c)
   next_round_typed done [] c h course = course
   next_round_typed done (t ∷ ts) c h course =
-      joined_typed library d (drained c) (course_of (siblings (fire_task library) true (t ∷ ts) c.state)) (record { state = course.state; queued = tt; detached = course.detached; items = course.items; end = tt })
+      joined_typed library d (drained c) (course_of (siblings (fire_task library) true (t ∷ ts) c.state))
+      (record { state = course.state; queued = tt; detached = course.detached; items = course.items; end = tt })
       (siblings_typed library d (fire_task library) true (t ∷ ts) fire_typed h c.state course.state)
   next_round_typed (abort_by x) ts c h course = course
   next_round_typed (veto_by r) ts c h course = course
@@ -204,22 +217,29 @@ module _ (library : Library) (d : Declared) (known : IsFitLibrary library) (kind
   due_typed (x ∷ xs) h = due_one (due_by x.task.place x.released) x.task (due xs) h.0 (due_typed xs h.1)
 
   generation_typed : (ts : List Task) → TasksTyped library d ts → (S : State) → Good library d S
-      → (Good library d (generation library ts S).state × DetachedTyped library d (generation library ts S).detached) × TransactionsHaveOnly (KindedCause library) (generation library ts S).transactions
+      → (Good library d (generation library ts S).state × DetachedTyped library d (generation library ts S).detached)
+      × TransactionsHaveOnly (KindedCause library) (generation library ts S).transactions
   generation_typed [] h S good = ((good, tt), tt)
   generation_typed (t ∷ ts) h S good =
       let first = top_typed t.now h.0.2 t.depth (task_work library t) (task_work_typed t h.0) S good in
       let after = top library t.now t.depth (task_work library t) S in
-      let rest = generation_typed ts h.1 after.state first.state in
-      ((rest.0.0, each_append (λ (x : Detached). TaskTyped library d x.task) after.detached (generation library ts after.state).detached first.detached rest.0.1), ((first.ending, first.items), rest.1))
+      let rest = generation_typed ts h.1 after.state first.state in (
+        (rest.0.0, each_append (λ (x : Detached). TaskTyped library d x.task) after.detached (generation library ts after.state).detached first.detached rest.0.1),
+        ((first.ending, first.items), rest.1),
+      )
 
-  cascade_typed : (n : ℕ) (ts : List Task) → TasksTyped library d ts → (S : State) → Good library d S → Good library d (cascade n library ts S).state × TransactionsHaveOnly (KindedCause library) (transactions_of (cascade n library ts S))
+  cascade_typed : (n : ℕ) (ts : List Task) → TasksTyped library d ts → (S : State) → Good library d S → Good library d (cascade n library ts S).state
+      × TransactionsHaveOnly (KindedCause library) (transactions_of (cascade n library ts S))
   cascade_typed zero ts h S good = (good, tt)
   cascade_typed (suc n) [] h S good = (good, tt)
   cascade_typed (suc n) (t ∷ ts) h S good =
       let g = generation library (t ∷ ts) S in
       let here = generation_typed (t ∷ ts) h S good in
-      let rest = cascade_typed n (due g.detached) (due_typed g.detached here.0.1) g.state here.0.0 in
-      (rest.0, each_append (λ (x : Transaction). EndsOnlyBy NotOfKinds x.ending × TreeHasOnly (KindedCause library) x.items) g.transactions (transactions_of (cascade n library (due g.detached) g.state)) here.1 rest.1)
+      let rest = cascade_typed n (due g.detached) (due_typed g.detached here.0.1) g.state here.0.0 in (
+        rest.0,
+        each_append (λ (x : Transaction). EndsOnlyBy NotOfKinds x.ending × TreeHasOnly (KindedCause library) x.items) g.transactions
+            (transactions_of (cascade n library (due g.detached) g.state)) here.1 rest.1,
+      )
 
   unit_timely : (u : Unit) → IsTrue (unit_fits library u) → IsTimely library d (now_in u)
   unit_timely (transaction now body) fit = (and_parts (fits_64 (pos now)) (body_fits (length library.classes) body) fit).0
@@ -253,4 +273,5 @@ none_declared d (suc n) = (tt, none_declared d n)
 
 pub never_of_kinds : NeverOfKinds
 never_of_kinds script d known fit kinded h =
-    units_kinded script.library d known kinded script.units fit h (initial_state script.library) (record { fit = initial_fits script.library; declared = none_declared d (length script.library.rules) })
+    units_kinded script.library d known kinded script.units fit h (initial_state script.library)
+    (record { fit = initial_fits script.library; declared = none_declared d (length script.library.rules) })

@@ -7,14 +7,21 @@ use Rattle.std.specs.Bool.{then_some}
 use Rattle.std.specs.List.{AllByRecursion, list_any}
 use Rattle.std.specs.Map.{lookup}
 use lib.Pointwise.{bytes_decides}
-use Rattle.hp_model.specs.Values.{Name, NamedValues, Kind, integer_kind, boolean_kind, text_kind, Field, kind_of, is_kind, row_fits, Value, integer, boolean, text, Row, KeyedRow, Cause, exists, missing, wrong_kind, overflow, divide_by_zero, no_parameter, depth_exceeded, requested, vetoed, Outcome, ◌>>=◌, or_cause, fits_64, value_fits}
+use Rattle.hp_model.specs.Values.{Name, NamedValues, Kind, integer_kind, boolean_kind, text_kind, Field, kind_of, is_kind, row_fits, Value, integer, boolean, text, Row, KeyedRow}
+use Rattle.hp_model.specs.Values.{Cause, exists, missing, wrong_kind, overflow, divide_by_zero, no_parameter, depth_exceeded, requested, vetoed, Outcome, ◌>>=◌, or_cause, fits_64}
+use Rattle.hp_model.specs.Values.{value_fits}
 use Rattle.hp_model.specs.Occurrences.{Primitive, created, updated, deleted, signalled, commit_reached, moment_reached, Occurrence}
 use Rattle.hp_model.specs.Events.{Pattern, on_create, on_update, on_delete, on_signal, on_commit, at_moment, every_moment, matches}
-use Rattle.hp_model.specs.Expressions.{Arithmetic, plus, minus, times, quotient, remainder, Comparison, equal, unequal, less, at_most, greater, at_least, Expression, constant, arithmetic, negated, inverted, both, either, compared, field_of, key_of, new_field, old_field, key_in, argument, time_of, occurrence_count, value_named, time_now, Environment, as_integer, as_boolean, in_range, calculate, is_below, is_equal, compare, part_of, row_named, value_at, field_in, new_row, old_row, operation_key, argument_of, moment_of, count_in, value_of}
+use Rattle.hp_model.specs.Expressions.{Arithmetic, plus, minus, times, quotient, remainder, Comparison, equal, unequal, less, at_most, greater, at_least, Expression, constant}
+use Rattle.hp_model.specs.Expressions.{arithmetic, negated, inverted, both, either, compared, field_of, key_of, new_field, old_field, key_in, argument, time_of, occurrence_count}
+use Rattle.hp_model.specs.Expressions.{value_named, time_now, Environment, as_integer, as_boolean, in_range, calculate, is_below, is_equal, compare, part_of, row_named, value_at}
+use Rattle.hp_model.specs.Expressions.{field_in, new_row, old_row, operation_key, argument_of, moment_of, count_in, value_of}
 use Rattle.hp_model.specs.Rules.{Library, class_at}
 use Rattle.hp_model.specs.State.{object_fits, primitive_fits}
 use Rattle.hp_model.specs.Firing.{kind_in}
-use Rattle.hp_model.specs.Kinds.{Sort, only, any, only_if, has_sort, Declared, signature_of, covers, is_declared, Columns, Scope, is_only, meets, meet, common, common_at, part_sort, field_sort, new_sort, old_sort, key_sort, argument_sort, moment_sort, named_sort, are_alike, are_ordered, are_comparable, sort_of, magnitude, is_small, is_result_calm, is_calm, NotOfKinds}
+use Rattle.hp_model.specs.Kinds.{Sort, only, any, only_if, has_sort, Declared, signature_of, covers, is_declared, Columns, Scope, is_only, meets, meet, common, common_at}
+use Rattle.hp_model.specs.Kinds.{part_sort, field_sort, new_sort, old_sort, key_sort, argument_sort, moment_sort, named_sort, are_alike, are_ordered, are_comparable, sort_of}
+use Rattle.hp_model.specs.Kinds.{magnitude, is_small, is_result_calm, is_calm, NotOfKinds}
 use Rattle.hp_model.proofs.FitValues as Fact
 use Rattle.hp_model.proofs.FitValues.{KeyedFits, PrimitiveFits, OptionFits, values_fit}
 use Rattle.hp_model.proofs.Magnitudes.{Near, near_value, known_value, GivesInteger, calm_gives, calm_negation}
@@ -331,7 +338,8 @@ value_choice true false s v known found t same e h next = cc
 value_choice false true s v known found t same e h next = cc
 value_choice false false s v known found t same e h next = next e
 
-value_found : (x : Name) (xs : List (Name × Sort)) (ys : NamedValues) (t : Sort) → ValuesTyped xs ys → lookup (bytes_eq x) xs ≡ Some t → (v : Value) × (lookup (bytes_eq x) ys ≡ Some v) × IsTrue (has_sort t v)
+value_found : (x : Name) (xs : List (Name × Sort)) (ys : NamedValues) (t : Sort) → ValuesTyped xs ys → lookup (bytes_eq x) xs ≡ Some t
+    → (v : Value) × (lookup (bytes_eq x) ys ≡ Some v) × IsTrue (has_sort t v)
 value_found x [] ys t h e = cc
 value_found x (a ∷ xs) [] t h e = absurd h
 value_found x (a ∷ xs) (b ∷ ys) t h e =
@@ -369,7 +377,8 @@ pub record EnvironmentTyped (library : Library) (d : Declared) (scope : Scope) (
   pub values : ValuesTyped scope.values env.values
   pub now : IsTrue (fits_64 (pos env.now))
 
-part_at : (library : Library) (d : Declared) (cs : List (List Pattern)) (exact : Bool) (ps : List Primitive) (i : ℕ) (c : List Pattern) → PartsMatch cs exact ps → PartsTyped library d ps → slice_get cs i ≡ Some c
+part_at : (library : Library) (d : Declared) (cs : List (List Pattern)) (exact : Bool) (ps : List Primitive) (i : ℕ) (c : List Pattern) → PartsMatch cs exact ps
+    → PartsTyped library d ps → slice_get cs i ≡ Some c
     → (p : Primitive) × (slice_get ps i ≡ Some p) × (PartTyped library d p × IsTrue (list_any (λ q. matches q p) c))
 part_at library d [] exact ps i c h typed e = cc
 part_at library d (a ∷ cs) exact [] i c h typed e = absurd h
@@ -421,7 +430,8 @@ common_found test (Some qs) s e = (qs, refl, e)
 
 module _ (library : Library) (d : Declared) where
   -- what a part gives, if each pattern of its place gives it
-  parts_typed : {C : Cause → Type 0} (c : Columns) (o : Option Occurrence) (env : Environment) → ColumnsTyped (Some c) o → OccurrenceTyped library d o → (i : ℕ) (test : Pattern → Option Sort) (read : Primitive → Outcome Value)
+  parts_typed : {C : Cause → Type 0} (c : Columns) (o : Option Occurrence) (env : Environment) → ColumnsTyped (Some c) o → OccurrenceTyped library d o
+      → (i : ℕ) (test : Pattern → Option Sort) (read : Primitive → Outcome Value)
       → ((q : Pattern) (p : Primitive) → matches q p ≡ true → PartTyped library d p → Typed C (test q) (read p))
       → Typed C (part_sort (Some c) i test) (part_of (record { occurrence = o; rows = env.rows; values = env.values; now = env.now }) i >>= read)
   parts_typed {C = C} c None env h typed i test read each s e = absurd h
@@ -433,7 +443,8 @@ module _ (library : Library) (d : Declared) where
       subst (λ x. Safe C (λ v. IsTrue (has_sort s v)) (read x)) (sym same)
       (Safe-weaker (λ c k. k) (λ v k. chosen.4 v k) (each chosen.0 found.0 chosen.2 found.2.0 chosen.1 chosen.3))
 
-  part_typed : {C : Cause → Type 0} (columns : Option Columns) (env : Environment) → ColumnsTyped columns env.occurrence → OccurrenceTyped library d env.occurrence → (i : ℕ) (test : Pattern → Option Sort) (read : Primitive → Outcome Value)
+  part_typed : {C : Cause → Type 0} (columns : Option Columns) (env : Environment) → ColumnsTyped columns env.occurrence → OccurrenceTyped library d env.occurrence
+      → (i : ℕ) (test : Pattern → Option Sort) (read : Primitive → Outcome Value)
       → ((q : Pattern) (p : Primitive) → matches q p ≡ true → PartTyped library d p → Typed C (test q) (read p))
       → Typed C (part_sort columns i test) (part_of env i >>= read)
   part_typed None env h typed i test read each s e = cc
@@ -572,7 +583,8 @@ module _ (library : Library) (d : Declared) where
   covered (s ∷ ss) (v ∷ vs) zero t h e = let same : s ≡ t = cc in (v, refl, subst (λ x. IsTrue (has_sort x v)) same (and_parts (has_sort s v) (covers ss vs) h).0)
   covered (s ∷ ss) (v ∷ vs) (suc j) t h e = covered ss vs j t (and_parts (has_sort s v) (covers ss vs) h).1 e
 
-  argument_found : {C : Cause → Type 0} (s name : Name) (arguments : List Value) (j : ℕ) → s ≡ name → IsTrue (covers (signature_of d name) arguments) → Typed C (slice_get (signature_of d s) j) (or_cause (slice_get arguments j) no_parameter)
+  argument_found : {C : Cause → Type 0} (s name : Name) (arguments : List Value) (j : ℕ) → s ≡ name → IsTrue (covers (signature_of d name) arguments)
+      → Typed C (slice_get (signature_of d s) j) (or_cause (slice_get arguments j) no_parameter)
   argument_found s name arguments j same h t e =
       let found = covered (signature_of d s) arguments j t (subst (λ n. IsTrue (covers (signature_of d n) arguments)) (sym same) h) e in
       Safe-some (slice_get arguments j) found.0 no_parameter found.1 found.2
@@ -606,7 +618,8 @@ module _ (library : Library) (d : Declared) where
         Safe-then {P = λ r. r ≡ found.0} (Safe-some (lookup (bytes_eq x) env.rows) found.0 wrong_kind found.1 refl) λ r same.
         field_typed library class f r.row (subst (λ y. KeyedOf library class y) (sym same) found.2).1 s g
 
-    keyed_typed : {C : Cause → Type 0} (x : Name) (known : Option ℕ) → lookup (bytes_eq x) scope.rows ≡ known → Typed C (then_some (is_some known) (only integer_kind)) (row_named env x >>= λ r. Ok (integer r.key))
+    keyed_typed : {C : Cause → Type 0} (x : Name) (known : Option ℕ) → lookup (bytes_eq x) scope.rows ≡ known
+        → Typed C (then_some (is_some known) (only integer_kind)) (row_named env x >>= λ r. Ok (integer r.key))
     keyed_typed x None e = untyped _
     keyed_typed x (Some class) e =
         if_typed true integer_kind _ λ _.
@@ -652,7 +665,8 @@ module _ (library : Library) (d : Declared) where
     near e = near_value library env (parts_fit env.occurrence typed.parts) (rows_fit scope.rows env.rows typed.rows) e
 
     -- what an operation gives, which faults only if it isn't calm
-    tested : (inner r : Bool) {r' : Bool} → r ≡ r' → (o : Outcome Value) → Gives IsArithmetic integer_kind o → (r' ≡ true → GivesInteger o) → Gives (λ c. IsArithmetic c × ((inner && r') ≡ false)) integer_kind o
+    tested : (inner r : Bool) {r' : Bool} → r ≡ r' → (o : Outcome Value) → Gives IsArithmetic integer_kind o → (r' ≡ true → GivesInteger o)
+        → Gives (λ c. IsArithmetic c × ((inner && r') ≡ false)) integer_kind o
     tested inner true same o safe calm = let got = calm (sym same) in subst (Gives _ integer_kind) (sym got.1) (Safe-value (integer got.0) refl)
     tested inner false same o safe calm = Safe-weaker (λ c k. (k, subst (λ b. (inner && b) ≡ false) same (not_second inner false refl))) (λ v k. k) safe
 
@@ -667,14 +681,17 @@ module _ (library : Library) (d : Declared) where
         if_typed (is_only integer_kind (sort_of library d scope a) && is_only integer_kind (sort_of library d scope b)) integer_kind _ λ h.
         let parts = and_parts (is_only integer_kind (sort_of library d scope a)) (is_only integer_kind (sort_of library d scope b)) h in
         let r = is_result_calm op a b in
-        Safe-then (with_fact (only_gives integer_kind (sort_of library d scope a) (value_of env a) (Typed-weaker (λ c k. (k.0, not_first (is_calm a && is_calm b) r (not_first (is_calm a) (is_calm b) k.1))) (value_typed a)) parts.0) (near a)) λ v hv.
-        Safe-then (with_fact (with_fact (only_gives integer_kind (sort_of library d scope b) (value_of env b) (Typed-weaker (λ c k. (k.0, not_first (is_calm a && is_calm b) r (not_second (is_calm a) (is_calm b) k.1))) (value_typed b)) parts.1) (near b)) (known_value env b)) λ w hw.
+        Safe-then (with_fact (only_gives integer_kind (sort_of library d scope a) (value_of env a)
+        (Typed-weaker (λ c k. (k.0, not_first (is_calm a && is_calm b) r (not_first (is_calm a) (is_calm b) k.1))) (value_typed a)) parts.0) (near a)) λ v hv.
+        Safe-then (with_fact (with_fact (only_gives integer_kind (sort_of library d scope b) (value_of env b)
+        (Typed-weaker (λ c k. (k.0, not_first (is_calm a && is_calm b) r (not_second (is_calm a) (is_calm b) k.1))) (value_typed b)) parts.1) (near b)) (known_value env b)) λ w hw.
         Safe-then (integer_known v hv.0) λ x is_x.
         Safe-then (integer_known w hw.0.0) λ y is_y.
         calculated op a b (is_calm a && is_calm b) x y r refl (λ e. calm_gives op a b v w x y e hv.1 hw.0.1 hw.1 is_x is_y)
     value_typed (negated a) =
         if_typed (is_only integer_kind (sort_of library d scope a)) integer_kind _ λ h.
-        Safe-then (with_fact (only_gives integer_kind (sort_of library d scope a) (value_of env a) (Typed-weaker (λ c k. (k.0, not_first (is_calm a) (is_small (magnitude a)) k.1)) (value_typed a)) h) (near a)) λ v hv.
+        Safe-then (with_fact (only_gives integer_kind (sort_of library d scope a) (value_of env a)
+        (Typed-weaker (λ c k. (k.0, not_first (is_calm a) (is_small (magnitude a)) k.1)) (value_typed a)) h) (near a)) λ v hv.
         Safe-then (integer_known v hv.0) λ x is_x.
         tested (is_calm a) (is_small (magnitude a)) refl (in_range (neg_ℤ x)) (range_safe (neg_ℤ x)) (λ e. calm_negation a v x e hv.1 is_x)
     value_typed (inverted a) =
@@ -686,14 +703,16 @@ module _ (library : Library) (d : Declared) where
         let parts = and_parts (is_only boolean_kind (sort_of library d scope a)) (is_only boolean_kind (sort_of library d scope b)) h in
         Safe-then (only_gives boolean_kind (sort_of library d scope a) (value_of env a) (Typed-weaker (λ c k. (k.0, not_first (is_calm a) (is_calm b) k.1)) (value_typed a)) parts.0) λ v hv.
         Safe-then (boolean_safe v hv) λ x _.
-        Safe-then (chosen_safe x false (value_of env b) (only_gives boolean_kind (sort_of library d scope b) (value_of env b) (Typed-weaker (λ c k. (k.0, not_second (is_calm a) (is_calm b) k.1)) (value_typed b)) parts.1)) λ w hw.
+        Safe-then (chosen_safe x false (value_of env b) (only_gives boolean_kind (sort_of library d scope b) (value_of env b)
+        (Typed-weaker (λ c k. (k.0, not_second (is_calm a) (is_calm b) k.1)) (value_typed b)) parts.1)) λ w hw.
         Safe-then (boolean_safe w hw) λ y _. Safe-value (boolean y) refl
     value_typed (either a b) =
         if_typed (is_only boolean_kind (sort_of library d scope a) && is_only boolean_kind (sort_of library d scope b)) boolean_kind _ λ h.
         let parts = and_parts (is_only boolean_kind (sort_of library d scope a)) (is_only boolean_kind (sort_of library d scope b)) h in
         Safe-then (only_gives boolean_kind (sort_of library d scope a) (value_of env a) (Typed-weaker (λ c k. (k.0, not_first (is_calm a) (is_calm b) k.1)) (value_typed a)) parts.0) λ v hv.
         Safe-then (boolean_safe v hv) λ x _.
-        Safe-then (otherwise_safe x true (value_of env b) (only_gives boolean_kind (sort_of library d scope b) (value_of env b) (Typed-weaker (λ c k. (k.0, not_second (is_calm a) (is_calm b) k.1)) (value_typed b)) parts.1)) λ w hw.
+        Safe-then (otherwise_safe x true (value_of env b) (only_gives boolean_kind (sort_of library d scope b) (value_of env b)
+        (Typed-weaker (λ c k. (k.0, not_second (is_calm a) (is_calm b) k.1)) (value_typed b)) parts.1)) λ w hw.
         Safe-then (boolean_safe w hw) λ y _. Safe-value (boolean y) refl
     value_typed (compared op a b) =
         if_typed (are_comparable op (sort_of library d scope a) (sort_of library d scope b)) boolean_kind _ λ h.

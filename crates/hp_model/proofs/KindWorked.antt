@@ -1,7 +1,8 @@
 -- Worked rows of the kinds: what is kinded, and what isn't.
 use Rattle.std.proofs.Common.{◌≡◌, refl, [], ◌∷◌, codes, true, false}
 use Rattle.hp_model.specs.Values.{integer_kind, text_kind, boolean, text}
-use Rattle.hp_model.specs.Expressions.{Expression, constant, arithmetic, plus, times, quotient, remainder, negated, compared, less, field_of, key_of, new_field, old_field, key_in, argument, occurrence_count, value_named}
+use Rattle.hp_model.specs.Expressions.{Expression, constant, arithmetic, plus, times, quotient, remainder, negated, compared, less, field_of, key_of, new_field, old_field, key_in}
+use Rattle.hp_model.specs.Expressions.{argument, occurrence_count, value_named}
 use Rattle.hp_model.specs.Events.{Event, pattern_event, on_create, on_update, on_delete, on_signal, or_event, seq_event}
 use Rattle.hp_model.specs.Rules.{Query, Aggregate, count_over, sum_over, greatest_over, single, query_entry, no_entry, let_entry, immediate, emit, signal, empty, ◌then◌, Library}
 use Rattle.hp_model.specs.Cascade.{transaction}

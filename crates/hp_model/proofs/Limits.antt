@@ -6,15 +6,22 @@ use Rattle.std.specs.List.{AllByRecursion, list_all}
 use Rattle.hp_model.specs.Values.{Outcome, Row}
 use Rattle.hp_model.specs.Occurrences.{Primitive, created, updated, deleted, signalled, commit_reached, moment_reached, no_occurrence}
 use Rattle.hp_model.specs.Conditions.{Findings, Verdict, satisfied, unsatisfied, faulty, answer, let_of, verdict}
-use Rattle.hp_model.specs.Rules.{Coupling, immediate, deferred, separate, dependent, exclusive, is_immediate, is_detached, Statement, create, update, delete, signal, emit, when, each, for_answer, with_object, subtransaction, let_value, abort, veto, veto_with, on_rule, fire, Body, empty, ◌then◌, Library, Rule, class_at, rule_at}
+use Rattle.hp_model.specs.Rules.{Coupling, immediate, deferred, separate, dependent, exclusive, is_immediate, is_detached, Statement, create, update, delete, signal, emit, when}
+use Rattle.hp_model.specs.Rules.{each, for_answer, with_object, subtransaction, let_value, abort, veto, veto_with, on_rule, fire, Body, empty, ◌then◌, Library, Rule, class_at}
+use Rattle.hp_model.specs.Rules.{rule_at}
 use Rattle.hp_model.specs.State.{State, Objects, write_object, remove_object, with_objects, RuleState, extended, find_object, rule_state, Status, absent, enabled, disabled, initial_state}
 use Rattle.hp_model.specs.Tree.{Task, Step, condition_step, action_step, Node, Operation, create_op, update_op, delete_op, no_items, operation, fire_node, act_node, with_action}
 use Rattle.hp_model.specs.Transactions.{End, done, abort_by, veto_by, Course, Work, then_do, with_value, for_each, with_items, placed, closed, joined, drained}
-use Rattle.hp_model.specs.Firing.{Firing, Fire, after_firing, siblings, course_of, Level, start, triggered, signal_in, Context, with_row, with_let, created_if_absent, updated_if_present, deleted_if_present, operated, sub_in, choose, run_statement, run_body, run_action, follow, decide, take_step, below_limit, fire_task, level_at, changed_row, made_row, checked_kinds, keyed_row, integer_value, boolean_value, values_of, answer_named, named_object, start_fired, fired_task, task_if, triggered_from, firing_with, action_veto, action_context, task_environment}
-use Rattle.hp_model.specs.Cascade.{Unit, now_in, transaction, moment, no_context, unit_work, task_work, most_rounds, next_round, rounds, top_course, top, veto_end, Generation, alone, followed_by, generation, due, Cascade, before_cascade, cascade, run_unit, run_units, unit_report, Evaluation}
+use Rattle.hp_model.specs.Firing.{Firing, Fire, after_firing, siblings, course_of, Level, start, triggered, signal_in, Context, with_row, with_let, created_if_absent}
+use Rattle.hp_model.specs.Firing.{updated_if_present, deleted_if_present, operated, sub_in, choose, run_statement, run_body, run_action, follow, decide, take_step, below_limit}
+use Rattle.hp_model.specs.Firing.{fire_task, level_at, changed_row, made_row, checked_kinds, keyed_row, integer_value, boolean_value, values_of, answer_named, named_object}
+use Rattle.hp_model.specs.Firing.{start_fired, fired_task, task_if, triggered_from, firing_with, action_veto, action_context, task_environment}
+use Rattle.hp_model.specs.Cascade.{Unit, now_in, transaction, moment, no_context, unit_work, task_work, most_rounds, next_round, rounds, top_course, top, veto_end, Generation}
+use Rattle.hp_model.specs.Cascade.{alone, followed_by, generation, due, Cascade, before_cascade, cascade, run_unit, run_units, unit_report, Evaluation}
 use Rattle.hp_model.specs.Chains.{signal_triggers, statement_triggers, body_triggers, unit_triggers, unit_within, with_limit, LimitIsIdle}
 use Rattle.hp_model.proofs.Guarded.{rank, body_rank}
-use Rattle.hp_model.proofs.Guarded.{every_filter, both_pass, Guard, IsAllowed, IsNewAt, Passes, passes_alike, created_alike, updated_alike, deleted_alike, signalled_alike, rule_passes, signal_new, one_new, siblings_kept, fire_kept, level_of}
+use Rattle.hp_model.proofs.Guarded.{every_filter, both_pass, Guard, IsAllowed, IsNewAt, Passes, passes_alike, created_alike, updated_alike, deleted_alike, signalled_alike}
+use Rattle.hp_model.proofs.Guarded.{rule_passes, signal_new, one_new, siblings_kept, fire_kept, level_of}
 use Rattle.hp_model.proofs.GuardedTops.{generation_leaves, unit_leaves, rank_small, AreNew, Leaves, leaving, AreDue, due_new, unit_kept, task_kept, work_kept, unit_commit}
 use Rattle.hp_model.proofs.Shallow.{may_fire, guarding, depth_bound, rank_bound, unit_passes}
 
@@ -105,19 +112,22 @@ module _ (library : Library) (other_limit most : ℕ) (few : most ≤ library.de
     operated_same : (op : Operation) (p : Primitive) (objects : Objects) → Passes allowed (suc d) (signal_triggers library p) → Same (operated level op p objects) (operated level' op p objects)
     operated_same op p objects ok S = λ i. then_do (with_items (operation op no_items) (with_objects S objects)) (λ S'. signal_same p ok S' i)
 
-    created_same : (class : ℕ) (key : ℤ) (new : Row) (old : Option Row) → Passes allowed (suc d) (signal_triggers library (created class (pos 0) [])) → Same (created_if_absent level class key new old) (created_if_absent level' class key new old)
+    created_same : (class : ℕ) (key : ℤ) (new : Row) (old : Option Row) → Passes allowed (suc d) (signal_triggers library (created class (pos 0) []))
+        → Same (created_if_absent level class key new old) (created_if_absent level' class key new old)
     created_same class key new (Some old) ok S = refl
     created_same class key new None ok S =
         operated_same (create_op class key new) (created class key new) (write_object S.objects class key new)
         (passes_alike library allowed (suc d) (created class (pos 0) []) (created class key new) (created_alike class key new) ok) S
 
-    updated_same : (class : ℕ) (key : ℤ) (given : Row) (old : Option Row) → Passes allowed (suc d) (signal_triggers library (updated class (pos 0) [] [])) → Same (updated_if_present level class key given old) (updated_if_present level' class key given old)
+    updated_same : (class : ℕ) (key : ℤ) (given : Row) (old : Option Row) → Passes allowed (suc d) (signal_triggers library (updated class (pos 0) [] []))
+        → Same (updated_if_present level class key given old) (updated_if_present level' class key given old)
     updated_same class key given None ok S = refl
     updated_same class key given (Some old) ok S =
         operated_same (update_op class key (changed_row given old)) (updated class key old (changed_row given old)) (write_object S.objects class key (changed_row given old))
         (passes_alike library allowed (suc d) (updated class (pos 0) [] []) (updated class key old (changed_row given old)) (updated_alike class key old (changed_row given old)) ok) S
 
-    deleted_same : (class : ℕ) (key : ℤ) (old : Option Row) → Passes allowed (suc d) (signal_triggers library (deleted class (pos 0) [])) → Same (deleted_if_present level class key old) (deleted_if_present level' class key old)
+    deleted_same : (class : ℕ) (key : ℤ) (old : Option Row) → Passes allowed (suc d) (signal_triggers library (deleted class (pos 0) []))
+        → Same (deleted_if_present level class key old) (deleted_if_present level' class key old)
     deleted_same class key None ok S = refl
     deleted_same class key (Some old) ok S =
         operated_same (delete_op class key) (deleted class key old) (remove_object S.objects class key)
@@ -131,13 +141,16 @@ module _ (library : Library) (other_limit most : ℕ) (few : most ≤ library.de
     mutual
       statement_same : (s : Statement) (context : Context) → Passes allowed (suc d) (statement_triggers library s) → Same (run_statement s level context) (run_statement s level' context)
       statement_same (create class key assignments) context ok S =
-          with_value_same (keyed_row context.environment key assignments (made_row (class_at library class).fields)) (λ r. created_if_absent level class r.key r.row (find_object S.objects class r.key))
+          with_value_same (keyed_row context.environment key assignments (made_row (class_at library class).fields))
+          (λ r. created_if_absent level class r.key r.row (find_object S.objects class r.key))
           (λ r. created_if_absent level' class r.key r.row (find_object S.objects class r.key)) (λ r. created_same class r.key r.row (find_object S.objects class r.key) ok) S
       statement_same (update class key assignments) context ok S =
-          with_value_same (keyed_row context.environment key assignments (checked_kinds (class_at library class).fields)) (λ r. updated_if_present level class r.key r.row (find_object S.objects class r.key))
+          with_value_same (keyed_row context.environment key assignments (checked_kinds (class_at library class).fields))
+          (λ r. updated_if_present level class r.key r.row (find_object S.objects class r.key))
           (λ r. updated_if_present level' class r.key r.row (find_object S.objects class r.key)) (λ r. updated_same class r.key r.row (find_object S.objects class r.key) ok) S
       statement_same (delete class key) context ok S =
-          with_value_same (integer_value context.environment key) (λ k. deleted_if_present level class k (find_object S.objects class k)) (λ k. deleted_if_present level' class k (find_object S.objects class k))
+          with_value_same (integer_value context.environment key) (λ k. deleted_if_present level class k (find_object S.objects class k))
+          (λ k. deleted_if_present level' class k (find_object S.objects class k))
           (λ k. deleted_same class k (find_object S.objects class k) ok) S
       statement_same (signal name arguments) context ok S =
           with_value_same (values_of context.environment arguments) (λ vs. signal_in level (signalled name vs)) (λ vs. signal_in level' (signalled name vs))
@@ -149,7 +162,8 @@ module _ (library : Library) (other_limit most : ℕ) (few : most ≤ library.de
       statement_same (each x class predicate body) context ok S = λ i.
           with_value (answer context.environment x class predicate S.objects) (λ rows. for_each rows (λ r S'. body_same body (with_row x r context) ok S' i)) S
       statement_same (for_answer x body) context ok S =
-          for_each_same (answer_named context.answers x) (λ r. run_body body level (with_row x r context)) (λ r. run_body body level' (with_row x r context)) (λ r. body_same body (with_row x r context) ok) S
+          for_each_same (answer_named context.answers x) (λ r. run_body body level (with_row x r context)) (λ r. run_body body level' (with_row x r context))
+          (λ r. body_same body (with_row x r context) ok) S
       statement_same (with_object x class key body) context ok S =
           with_value_same (named_object S.objects context.environment class key) (λ r. run_body body level (with_row x r context)) (λ r. run_body body level' (with_row x r context))
           (λ r. body_same body (with_row x r context) ok) S
@@ -169,7 +183,8 @@ module _ (library : Library) (other_limit most : ℕ) (few : most ≤ library.de
       body_same empty context ok S = refl
       body_same (s then rest) context ok S =
           let parts = both_pass (allowed (suc d)) (statement_triggers library s) (body_triggers library rest) ok in
-          then_do_same (run_statement s level context S) (run_statement s level' context S) (run_body rest level context) (run_body rest level' context) (statement_same s context parts.0 S) (body_same rest context parts.1)
+          then_do_same (run_statement s level context S) (run_statement s level' context S) (run_body rest level context) (run_body rest level' context)
+          (statement_same s context parts.0 S) (body_same rest context parts.1)
 
   -- ---- firings
 

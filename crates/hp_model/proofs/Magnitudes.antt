@@ -10,11 +10,14 @@ use Rattle.std.proofs.lemmas.Nat.{le-div, mul-le}
 use Rattle.std.proofs.lemmas.Int.{unsigned_abs-mul, rem_below}
 use Rattle.std.proofs.lemmas.Bool.{and_parts, ltb-true}
 use Rattle.hp_model.specs.Values.{Name, Value, integer, boolean, text, KeyedRow, wrong_kind, overflow, divide_by_zero, Outcome, ◌>>=◌, fits_64}
-use Rattle.hp_model.specs.Expressions.{Arithmetic, plus, minus, times, quotient, remainder, Expression, constant, arithmetic, negated, inverted, both, either, compared, field_of, key_of, new_field, old_field, key_in, argument, time_of, occurrence_count, value_named, time_now, Environment, as_integer, in_range, calculate, row_named, value_of}
+use Rattle.hp_model.specs.Expressions.{Arithmetic, plus, minus, times, quotient, remainder, Expression, constant, arithmetic, negated, inverted, both, either, compared, field_of}
+use Rattle.hp_model.specs.Expressions.{key_of, new_field, old_field, key_in, argument, time_of, occurrence_count, value_named, time_now, Environment, as_integer, in_range}
+use Rattle.hp_model.specs.Expressions.{calculate, row_named, value_of}
 use Rattle.hp_model.specs.Rules.{Library}
 use Rattle.hp_model.specs.Ranges.{expression_fits}
 use Rattle.hp_model.specs.Kinds.{bounded_by, known_divisor, quotient_bound, magnitude, is_small, is_nonzero, is_result_calm}
-use Rattle.hp_model.proofs.FitValues.{Gives, Gives-value, Gives-none, Gives-any, Gives-then, Gives-if, Gives-or, each_found, ValueFits, KeyedFits, OptionFits, unsigned_fits, fits_unsigned, field_gives, value_gives}
+use Rattle.hp_model.proofs.FitValues.{Gives, Gives-value, Gives-none, Gives-any, Gives-then, Gives-if, Gives-or, each_found, ValueFits, KeyedFits, OptionFits, unsigned_fits}
+use Rattle.hp_model.proofs.FitValues.{fits_unsigned, field_gives, value_gives}
 
 -- ---- distances from 0
 
@@ -77,7 +80,8 @@ Known o y = (d : ℕ) → o ≡ Some d → unsigned_abs y ≡ d
 near_range : (o : Option ℕ) (z : ℤ) → NearInteger o z → Gives (Near o) (in_range z)
 near_range o z h = Gives-if (fits_64 z) (integer z) overflow (λ _. near_integer o z h)
 
-two_bounds : (f : ℕ → ℕ → ℕ) (o p : Option ℕ) (x y z : ℤ) → NearInteger o x → NearInteger p y → ((m n : ℕ) → unsigned_abs x ≤ m → unsigned_abs y ≤ n → unsigned_abs z ≤ f m n) → NearInteger (bounded_by f o p) z
+two_bounds : (f : ℕ → ℕ → ℕ) (o p : Option ℕ) (x y z : ℤ) → NearInteger o x → NearInteger p y → ((m n : ℕ) → unsigned_abs x ≤ m → unsigned_abs y ≤ n → unsigned_abs z ≤ f m n)
+    → NearInteger (bounded_by f o p) z
 two_bounds f None p x y z h k result m e = cc
 two_bounds f (Some a) None x y z h k result m e = cc
 two_bounds f (Some a) (Some b) x y z h k result m e = let same : f a b ≡ m = cc in subst (λ n. unsigned_abs z ≤ n) same (result a b (h a refl) (k b refl))
@@ -119,9 +123,11 @@ calculate_near quotient o p d x (pos (suc n)) h k known = near_range (quotient_b
 calculate_near quotient o p d x (negsuc n) h k known = near_range (quotient_bound o d) (int_div x (negsuc n)) (quotient_near o d x (negsuc n) n refl h known)
 calculate_near remainder o p d x (pos zero) h k known = Gives-none divide_by_zero
 calculate_near remainder o p d x (pos (suc n)) h k known =
-    Gives-then (Gives-any (in_range (int_div x (pos (suc n))))) λ v _. Gives-value (integer (int_rem x (pos (suc n)))) (near_integer p (int_rem x (pos (suc n))) (λ m e. let low = rem_below x (pos (suc n)) (omega arith) in let high = k m e in omega (arith, low, high)))
+    Gives-then (Gives-any (in_range (int_div x (pos (suc n))))) λ v _. Gives-value (integer (int_rem x (pos (suc n))))
+    (near_integer p (int_rem x (pos (suc n))) (λ m e. let low = rem_below x (pos (suc n)) (omega arith) in let high = k m e in omega (arith, low, high)))
 calculate_near remainder o p d x (negsuc n) h k known =
-    Gives-then (Gives-any (in_range (int_div x (negsuc n)))) λ v _. Gives-value (integer (int_rem x (negsuc n))) (near_integer p (int_rem x (negsuc n)) (λ m e. let low = rem_below x (negsuc n) (omega arith) in let high = k m e in omega (arith, low, high)))
+    Gives-then (Gives-any (in_range (int_div x (negsuc n)))) λ v _. Gives-value (integer (int_rem x (negsuc n)))
+    (near_integer p (int_rem x (negsuc n)) (λ m e. let low = rem_below x (negsuc n) (omega arith) in let high = k m e in omega (arith, low, high)))
 
 -- ---- expressions
 
@@ -256,7 +262,8 @@ remainder_gives x (negsuc n) low fits =
     let got = range_gives (int_div x (negsuc n)) fits in
     (int_rem x (negsuc n), ap (λ (o : Outcome Value). o >>= λ _. Ok (integer (int_rem x (negsuc n)))) got.1)
 
-pub calm_gives : (op : Arithmetic) (a b : Expression) (v w : Value) (x y : ℤ) → is_result_calm op a b ≡ true → Near (magnitude a) v → Near (magnitude b) w → KnownValue b w → v ≡ integer x → w ≡ integer y → GivesInteger (calculate op x y)
+pub calm_gives : (op : Arithmetic) (a b : Expression) (v w : Value) (x y : ℤ) → is_result_calm op a b ≡ true → Near (magnitude a) v → Near (magnitude b) w
+    → KnownValue b w → v ≡ integer x → w ≡ integer y → GivesInteger (calculate op x y)
 calm_gives plus a b v w x y e h k known is_x is_y =
     range_gives (x +ℤ y) (small_fits (bounded_by ◌+◌ (magnitude a) (magnitude b)) (x +ℤ y) e
     (two_bounds ◌+◌ (magnitude a) (magnitude b) x y (x +ℤ y) (from_near (magnitude a) v x h is_x) (from_near (magnitude b) w y k is_y) (λ m n l r. let sum = add_abs x y in omega (arith, l, r, sum))))

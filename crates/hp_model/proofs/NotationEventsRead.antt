@@ -9,7 +9,8 @@ use Rattle.hp_model.specs.NotationTree as T
 use Rattle.hp_model.specs.NotationTree.{Node, form, Phrase}
 use Rattle.hp_model.specs.NotationPhrases.{is_mark, past, passed, Operator, most_operators, chain_from}
 use Rattle.hp_model.specs.NotationEvents.{simple_event, joint, event_operator, event, event_within, any_event}
-use Rattle.hp_model.specs.NotationForms.{Change, creation, change, deletion, Event, on_change, on_signal, on_commit, at_moment, every_moment, or_event, then_event, closure_event, event_data, form_data}
+use Rattle.hp_model.specs.NotationForms.{Change, creation, change, deletion, Event, on_change, on_signal, on_commit, at_moment, every_moment, or_event, then_event, closure_event}
+use Rattle.hp_model.specs.NotationForms.{event_data, form_data}
 use Rattle.hp_model.specs.NotationPrint.{Gap, tight, space, Pieces, at_gap, sign, enclosed_if, first_is, is_or, is_then, event_pieces}
 use Rattle.hp_model.specs.NotationLaws.{IsWritableEvent, event_levels}
 use Rattle.hp_model.proofs.NotationReadings.{bind_ok, stream, Reading, Chaining, Grows, chain_on, ends, name_cases, begins-stream, grows_enclosed}
@@ -161,16 +162,20 @@ module _ (a b : Event) (left : Owned a) (right : Owned b) where
   on_right = enclosed_if (is_or b || is_then b) (event_pieces b)
 
   or_chain : (l : ℕ) → l < 64 → event_levels (or_event a b) ≤ l + 1 → (gap : Gap) (k : Pieces) (o : ℕ → ℕ)
-      → Chaining (simple_event (event_within l)) (joint or_mark (codes "or")) (event (event_within l)) (event_levels (or_event a b)) (event_data (or_event a b)) (stream o (event_pieces (or_event a b) gap k)) k
+      → Chaining (simple_event (event_within l)) (joint or_mark (codes "or")) (event (event_within l)) (event_levels (or_event a b)) (event_data (or_event a b))
+      (stream o (event_pieces (or_event a b) gap k)) k
   or_chain l few h gap k o =
-      chain_on (simple_event (event_within l)) (joint or_mark (codes "or")) (event (event_within l)) (codes "or") or_mark (stream o (event_pieces (or_event a b) gap k)) on_right k (event_data a) (event_data b) (event_levels a) (event_levels (or_event a b))
+      chain_on (simple_event (event_within l)) (joint or_mark (codes "or")) (event (event_within l)) (codes "or") or_mark (stream o (event_pieces (or_event a b) gap k))
+      on_right k (event_data a) (event_data b) (event_levels a) (event_levels (or_event a b))
       (λ next. refl) (omega arith) (omega arith)
       (on_left_of_or a left l few (omega arith) (is_then a) refl gap (on_right space k) o) (λ next. as_simple b right l few (omega arith) (is_or b || is_then b) refl space k next)
 
   then_chain : (l : ℕ) → l < 64 → event_levels (then_event a b) ≤ l + 1 → (gap : Gap) (k : Pieces) (o : ℕ → ℕ)
-      → Chaining (simple_event (event_within l)) (joint then_mark (codes "seq")) (event (event_within l)) (event_levels (then_event a b)) (event_data (then_event a b)) (stream o (event_pieces (then_event a b) gap k)) k
+      → Chaining (simple_event (event_within l)) (joint then_mark (codes "seq")) (event (event_within l)) (event_levels (then_event a b)) (event_data (then_event a b))
+      (stream o (event_pieces (then_event a b) gap k)) k
   then_chain l few h gap k o =
-      chain_on (simple_event (event_within l)) (joint then_mark (codes "seq")) (event (event_within l)) (codes "seq") then_mark (stream o (event_pieces (then_event a b) gap k)) on_right k (event_data a) (event_data b) (event_levels a) (event_levels (then_event a b))
+      chain_on (simple_event (event_within l)) (joint then_mark (codes "seq")) (event (event_within l)) (codes "seq") then_mark (stream o (event_pieces (then_event a b) gap k))
+      on_right k (event_data a) (event_data b) (event_levels a) (event_levels (then_event a b))
       (λ next. refl) (omega arith) (omega arith)
       (on_left_of_then a left l few (omega arith) (is_or a) refl gap (on_right space k) o) (λ next. as_simple b right l few (omega arith) (is_or b || is_then b) refl space k next)
 
@@ -188,7 +193,8 @@ module _ (a b : Event) (left : Owned a) (right : Owned b) where
     simple = λ e. absurd (true≢false e);
     or_left = λ _ gap k o. or_chain l few h gap (sign space or_mark k) o;
     then_left = λ e. absurd (true≢false e);
-    whole = λ gap k o none. whole_chain l (event_levels (or_event a b)) or_mark (codes "or") (event_data (or_event a b)) (stream o (event_pieces (or_event a b) gap k)) k (first_parts k none).0 (or_chain l few h gap k o);
+    whole = λ gap k o none. whole_chain l (event_levels (or_event a b)) or_mark (codes "or") (event_data (or_event a b)) (stream o (event_pieces (or_event a b) gap k))
+        k (first_parts k none).0 (or_chain l few h gap k o);
   }
 
   own_then : Owned (then_event a b)
@@ -196,10 +202,12 @@ module _ (a b : Event) (left : Owned a) (right : Owned b) where
     simple = λ e. absurd (true≢false e);
     or_left = λ e. absurd (true≢false e);
     then_left = λ _ gap k o. then_chain l few h gap (sign space then_mark k) o;
-    whole = λ gap k o none. whole_chain l (event_levels (then_event a b)) then_mark (codes "seq") (event_data (then_event a b)) (stream o (event_pieces (then_event a b) gap k)) k (first_parts k none).1 (then_chain l few h gap k o);
+    whole = λ gap k o none. whole_chain l (event_levels (then_event a b)) then_mark (codes "seq") (event_data (then_event a b)) (stream o (event_pieces (then_event a b) gap k))
+        k (first_parts k none).1 (then_chain l few h gap k o);
   }
 
-  closure_by : (l : ℕ) → l < 64 → event_levels (closure_event a b) ≤ l + 1 → SimpleBy l (event_levels (closure_event a b)) (omega arith) (event_pieces (closure_event a b)) (event_data (closure_event a b))
+  closure_by : (l : ℕ) → l < 64 → event_levels (closure_event a b) ≤ l + 1
+      → SimpleBy l (event_levels (closure_event a b)) (omega arith) (event_pieces (closure_event a b)) (event_data (closure_event a b))
   unfolding event_within
   closure_by zero few h gap k o = absurd (omega (arith, event_levels_positive a))
   closure_by (suc l) few h gap k o =

@@ -4,15 +4,22 @@ use Rattle.std.specs.Prelude.{nat_lt, bytes_eq}
 use Rattle.std.proofs.lemmas.Bool.{lt-ltb}
 use Rattle.serde_json.specs.Data.{Data, string}
 use Rattle.hp_model.specs.Values.{◌>>=◌}
-use Rattle.hp_model.specs.NotationTokens.{Mark, and_mark, or_mark, not_mark, equal_sign, unequal_sign, less_sign, at_most_sign, greater_sign, at_least_sign, plus_sign, times_sign, divided_sign, percent_sign, minus_sign, open_parenthesis, close_parenthesis, point, key_mark, spelling, mark, word, quoted, number, string as string_token, Tokens, token, ending, unreadable}
+use Rattle.hp_model.specs.NotationTokens.{Mark, and_mark, or_mark, not_mark, equal_sign, unequal_sign, less_sign, at_most_sign, greater_sign, at_least_sign, plus_sign, times_sign}
+use Rattle.hp_model.specs.NotationTokens.{divided_sign, percent_sign, minus_sign, open_parenthesis, close_parenthesis, point, key_mark, spelling, mark, word, quoted, number}
+use Rattle.hp_model.specs.NotationTokens.{string as string_token, Tokens, token, ending, unreadable}
 use Rattle.hp_model.specs.NotationTree as T
 use Rattle.hp_model.specs.NotationTree.{Node, data_of, form, Phrase}
 use Rattle.hp_model.specs.NotationPhrases.{is_mark, begins, past, passed}
-use Rattle.hp_model.specs.NotationExpressions.{Deeper, level_of, operator, row_field, primary, negative, of_row, named, alone, unary, product, sum, comparison, negation, conjunction, expression, expressions_within, any_expression, any_sum}
-use Rattle.hp_model.specs.NotationForms.{Expression, integer, truth, text, Operator, either, both, equal, unequal, less, at_most, greater, at_least, plus, minus, times, quotient, remainder, operator_mark, operation, inverted, negated, Image, new_image, old_image, field_of, key_of, value, now, image_field, key_in, time_of, argument, occurrence_count, expression_data, form_data, natural_data}
-use Rattle.hp_model.specs.NotationPrint.{Gap, tight, space, Pieces, at_gap, sign, free, name, natural, value_token_of, enclosed_if, part_pieces, expression_level, left_level, right_level, negated_level, expression_pieces, expression_in}
+use Rattle.hp_model.specs.NotationExpressions.{Deeper, level_of, operator, row_field, primary, negative, of_row, named, alone, unary, product, sum, comparison, negation}
+use Rattle.hp_model.specs.NotationExpressions.{conjunction, expression, expressions_within, any_expression, any_sum}
+use Rattle.hp_model.specs.NotationForms.{Expression, integer, truth, text, Operator, either, both, equal, unequal, less, at_most, greater, at_least, plus, minus, times, quotient}
+use Rattle.hp_model.specs.NotationForms.{remainder, operator_mark, operation, inverted, negated, Image, new_image, old_image, field_of, key_of, value, now, image_field, key_in}
+use Rattle.hp_model.specs.NotationForms.{time_of, argument, occurrence_count, expression_data, form_data, natural_data}
+use Rattle.hp_model.specs.NotationPrint.{Gap, tight, space, Pieces, at_gap, sign, free, name, natural, value_token_of, enclosed_if, part_pieces, expression_level, left_level}
+use Rattle.hp_model.specs.NotationPrint.{right_level, negated_level, expression_pieces, expression_in}
 use Rattle.hp_model.specs.NotationLaws.{Fits, IsWritableExpression, expression_levels}
-use Rattle.hp_model.proofs.NotationReadings.{stream, mark_binding, binding, no_point, Reading, ReadsBy, ChainsBy, Grows, begins_chain, ends_chain, chain_step, one_side, two_sides, two_sides_read, enclosed_cases, name_cases, no_fault, grows_enclosed}
+use Rattle.hp_model.proofs.NotationReadings.{stream, mark_binding, binding, no_point, Reading, ReadsBy, ChainsBy, Grows, begins_chain, ends_chain, chain_step, one_side, two_sides}
+use Rattle.hp_model.proofs.NotationReadings.{two_sides_read, enclosed_cases, name_cases, no_fault, grows_enclosed}
 
 -- ---- what was read at one level is read at the next looser one
 
@@ -168,7 +175,8 @@ module _ (x : Expression) (own : Owned x) where
   parenthesized zero few h gap k o q = absurd (omega (arith, levels_positive x))
   parenthesized (suc l) few h gap k o q =
       let inner = own l (omega arith) (omega arith) in
-      let r = at_expression (expressions_within l) (expression_levels x) (levels_positive x) (expression_pieces x) (expression_data x) inner.rank inner.base tight (sign tight close_parenthesis k) (λ i. o (suc i)) (omega arith) in
+      let r = at_expression (expressions_within l) (expression_levels x) (levels_positive x) (expression_pieces x) (expression_data x) inner.rank inner.base
+      tight (sign tight close_parenthesis k) (λ i. o (suc i)) (omega arith) in
       record {
         node = r.node;
         next = λ i. r.next (suc i);
@@ -193,33 +201,39 @@ module _ (x : Expression) (own : Owned x) where
     mine = own l few (omega arith)
 
     in_expression : ReadsBy (expression deep) 1 (expression_in 1 x) dat
-    in_expression = enclosed_cases (expression_level x) 1 written (λ g. ReadsBy (expression deep) 1 g dat) (λ _. at_expression deep (expression_levels x) (levels_positive x) paren dat rank_8 (parenthesized l few h))
+    in_expression = enclosed_cases (expression_level x) 1 written (λ g. ReadsBy (expression deep) 1 g dat)
+        (λ _. at_expression deep (expression_levels x) (levels_positive x) paren dat rank_8 (parenthesized l few h))
         (λ above. at_expression deep (expression_levels x) (levels_positive x) written dat mine.rank mine.base)
 
     in_conjunction : ReadsBy (conjunction deep) 2 (expression_in 2 x) dat
-    in_conjunction = enclosed_cases (expression_level x) 2 written (λ g. ReadsBy (conjunction deep) 2 g dat) (λ _. at_conjunction deep (expression_levels x) (levels_positive x) paren dat rank_8 (parenthesized l few h) (omega arith))
+    in_conjunction = enclosed_cases (expression_level x) 2 written (λ g. ReadsBy (conjunction deep) 2 g dat)
+        (λ _. at_conjunction deep (expression_levels x) (levels_positive x) paren dat rank_8 (parenthesized l few h) (omega arith))
         (λ above. at_conjunction deep (expression_levels x) (levels_positive x) written dat mine.rank mine.base (mine.fits 2 (omega arith) above))
 
     in_negation : ReadsBy (negation deep) 4 (expression_in 3 x) dat
-    in_negation = enclosed_cases (expression_level x) 3 written (λ g. ReadsBy (negation deep) 4 g dat) (λ _. at_negation deep (expression_levels x) (levels_positive x) paren dat rank_8 (parenthesized l few h) (omega arith))
+    in_negation = enclosed_cases (expression_level x) 3 written (λ g. ReadsBy (negation deep) 4 g dat)
+        (λ _. at_negation deep (expression_levels x) (levels_positive x) paren dat rank_8 (parenthesized l few h) (omega arith))
         (λ above. at_negation deep (expression_levels x) (levels_positive x) written dat mine.rank mine.base (mine.fits 3 (omega arith) above))
 
     in_sum_chain : ChainsBy (product deep) (operator 5) (sum deep) 6 (expression_levels x) (expression_in 5 x) dat
-    in_sum_chain = enclosed_cases (expression_level x) 5 written (λ g. ChainsBy (product deep) (operator 5) (sum deep) 6 (expression_levels x) g dat) (λ _. at_sum_chain deep (expression_levels x) (levels_positive x) paren dat rank_8 (parenthesized l few h) (omega arith))
+    in_sum_chain = enclosed_cases (expression_level x) 5 written (λ g. ChainsBy (product deep) (operator 5) (sum deep) 6 (expression_levels x) g dat)
+        (λ _. at_sum_chain deep (expression_levels x) (levels_positive x) paren dat rank_8 (parenthesized l few h) (omega arith))
         (λ above. at_sum_chain deep (expression_levels x) (levels_positive x) written dat mine.rank mine.base (mine.fits 5 (omega arith) above))
 
     in_sum : ReadsBy (sum deep) 5 (expression_in 5 x) dat
     in_sum = sum_of deep (expression_levels x) (levels_positive x) (expression_in 5 x) dat in_sum_chain
 
     in_product_chain : ChainsBy (unary deep) (operator 6) (product deep) 9 (expression_levels x) (expression_in 6 x) dat
-    in_product_chain = enclosed_cases (expression_level x) 6 written (λ g. ChainsBy (unary deep) (operator 6) (product deep) 9 (expression_levels x) g dat) (λ _. at_product_chain deep (expression_levels x) (levels_positive x) paren dat rank_8 (parenthesized l few h) (omega arith))
+    in_product_chain = enclosed_cases (expression_level x) 6 written (λ g. ChainsBy (unary deep) (operator 6) (product deep) 9 (expression_levels x) g dat)
+        (λ _. at_product_chain deep (expression_levels x) (levels_positive x) paren dat rank_8 (parenthesized l few h) (omega arith))
         (λ above. at_product_chain deep (expression_levels x) (levels_positive x) written dat mine.rank mine.base (mine.fits 6 (omega arith) above))
 
     in_product : ReadsBy (product deep) 6 (expression_in 6 x) dat
     in_product = product_of deep (expression_levels x) (levels_positive x) (expression_in 6 x) dat in_product_chain
 
     in_unary : ReadsBy (unary deep) 9 (expression_in 7 x) dat
-    in_unary = enclosed_cases (expression_level x) 7 written (λ g. ReadsBy (unary deep) 9 g dat) (λ _. at_unary deep (expression_levels x) (levels_positive x) paren dat rank_8 (parenthesized l few h) (omega arith))
+    in_unary = enclosed_cases (expression_level x) 7 written (λ g. ReadsBy (unary deep) 9 g dat)
+        (λ _. at_unary deep (expression_levels x) (levels_positive x) paren dat rank_8 (parenthesized l few h) (omega arith))
         (λ above. at_unary deep (expression_levels x) (levels_positive x) written dat mine.rank mine.base (mine.fits 7 (omega arith) above))
 
     after_minus : ReadsBy (primary deep) 9 (enclosed_if (nat_lt (negated_level x) 8) written) dat
@@ -339,7 +353,13 @@ own_value x l = own_primary (value x) l refl (λ gap k o h. by gap k o h (bytes_
 
 own_now : (l : ℕ) → Own now l
 own_now l = own_primary now l refl
-    (λ gap k o h. record { node = form (o 0) (codes "now") []; next = λ i. o (suc i); same = refl; reads = named_alone (o 0) true (T.text (o 0) (codes "now")) (stream (λ i. o (suc i)) k) (no_point k (λ i. o (suc i)) h) })
+    (λ gap k o h. record {
+      node = form (o 0) (codes "now") [];
+      next = λ i. o (suc i);
+      same = refl;
+      reads =
+          named_alone (o 0) true (T.text (o 0) (codes "now")) (stream (λ i. o (suc i)) k) (no_point k (λ i. o (suc i)) h);
+    })
 
 row_field_read : (at : ℕ) (tag : List ℕ) (i : ℕ) (f : List ℕ) (k : Pieces) (o : ℕ → ℕ) → Fits i
     → Reading (row_field at tag) (form_data tag (natural_data i ∷ string f ∷ [])) (stream o (part_pieces i (sign tight point (name tight f k)))) k
@@ -459,17 +479,21 @@ module _ (a b : Expression) (left : Owned a) (right : Owned b) where
   Operated op = Owned (operation op a b)
 
   own_product : (m : Mark) (l : ℕ) → l < 64 → 2 * suc (max (expression_levels a) (expression_levels b)) ≤ l + 2 → level_of m ≡ 6 → mark_binding m < 9
-      → ChainsBy (unary (expressions_within l)) (operator 6) (product (expressions_within l)) 9 (suc (max (expression_levels a) (expression_levels b))) (λ gap k. expression_in 6 a gap (sign space m (expression_in 7 b space k)))
+      → ChainsBy (unary (expressions_within l)) (operator 6) (product (expressions_within l)) 9 (suc (max (expression_levels a) (expression_levels b)))
+      (λ gap k. expression_in 6 a gap (sign space m (expression_in 7 b space k)))
       (form_data (spelling m) (expression_data a ∷ expression_data b ∷ []))
   own_product m l few h is binds =
-      chain_step (unary (expressions_within l)) 6 (product (expressions_within l)) 9 m (expression_in 6 a) (expression_in 7 b) (expression_data a) (expression_data b) (expression_levels a) (suc (max (expression_levels a) (expression_levels b))) is binds
+      chain_step (unary (expressions_within l)) 6 (product (expressions_within l)) 9 m (expression_in 6 a) (expression_in 7 b) (expression_data a)
+      (expression_data b) (expression_levels a) (suc (max (expression_levels a) (expression_levels b))) is binds
       (omega arith) (omega arith) (in_product_chain a left l few (omega arith)) (in_unary b right l few (omega arith))
 
   own_sum : (m : Mark) (l : ℕ) → l < 64 → 2 * suc (max (expression_levels a) (expression_levels b)) ≤ l + 2 → level_of m ≡ 5 → mark_binding m < 6
-      → ChainsBy (product (expressions_within l)) (operator 5) (sum (expressions_within l)) 6 (suc (max (expression_levels a) (expression_levels b))) (λ gap k. expression_in 5 a gap (sign space m (expression_in 6 b space k)))
+      → ChainsBy (product (expressions_within l)) (operator 5) (sum (expressions_within l)) 6 (suc (max (expression_levels a) (expression_levels b)))
+      (λ gap k. expression_in 5 a gap (sign space m (expression_in 6 b space k)))
       (form_data (spelling m) (expression_data a ∷ expression_data b ∷ []))
   own_sum m l few h is binds =
-      chain_step (product (expressions_within l)) 5 (sum (expressions_within l)) 6 m (expression_in 5 a) (expression_in 6 b) (expression_data a) (expression_data b) (expression_levels a) (suc (max (expression_levels a) (expression_levels b))) is binds
+      chain_step (product (expressions_within l)) 5 (sum (expressions_within l)) 6 m (expression_in 5 a) (expression_in 6 b) (expression_data a)
+      (expression_data b) (expression_levels a) (suc (max (expression_levels a) (expression_levels b))) is binds
       (omega arith) (omega arith) (in_sum_chain a left l few (omega arith)) (in_product b right l few (omega arith))
 
   own_relation : (m : Mark) (l : ℕ) → l < 64 → 2 * suc (max (expression_levels a) (expression_levels b)) ≤ l + 2 → level_of m ≡ 4 → mark_binding m < 5
@@ -480,7 +504,8 @@ module _ (a b : Expression) (left : Owned a) (right : Owned b) where
       let deep = expressions_within l in
       let f = λ (gap : Gap) (k : Pieces). expression_in 5 a gap (sign space m (expression_in 5 b space k)) in
       weaker (two_sides (sum deep) (sum deep) 4) 4 5 f (form_data (spelling m) (expression_data a ∷ expression_data b ∷ [])) (omega arith)
-      (two_sides_read (sum deep) (sum deep) 4 5 5 m (expression_in 5 a) (expression_in 5 b) (expression_data a) (expression_data b) is binds (in_sum a left l few (omega arith)) (in_sum b right l few (omega arith)))
+      (two_sides_read (sum deep) (sum deep) 4 5 5 m (expression_in 5 a) (expression_in 5 b) (expression_data a) (expression_data b) is binds
+      (in_sum a left l few (omega arith)) (in_sum b right l few (omega arith)))
 
   own_both : Operated both
   unfolding expressions_within conjunction
@@ -541,7 +566,8 @@ owned occurrence_count w l few h = own_count l
 -- an expression in any place of a script
 pub any_expression_read : (x : Expression) → IsWritableExpression x → expression_levels x ≤ 32 → ReadsBy any_expression 1 (expression_pieces x) (expression_data x)
 unfolding expressions_within
-any_expression_read x w h = let mine = owned x w 63 (omega arith) (omega arith) in at_expression (expressions_within 63) (expression_levels x) (levels_positive x) (expression_pieces x) (expression_data x) mine.rank mine.base
+any_expression_read x w h = let mine = owned x w 63 (omega arith) (omega arith) in at_expression (expressions_within 63) (expression_levels x) (levels_positive x)
+    (expression_pieces x) (expression_data x) mine.rank mine.base
 
 pub any_sum_read : (x : Expression) → IsWritableExpression x → expression_levels x ≤ 32 → ReadsBy any_sum 5 (expression_in 5 x) (expression_data x)
 any_sum_read x w h = in_sum x (owned x w) 63 (omega arith) (omega arith)
@@ -550,4 +576,5 @@ any_sum_read x w h = in_sum x (owned x w) 63 (omega arith) (omega arith)
 pub enclosed_expression_read : (x : Expression) → IsWritableExpression x → expression_levels x ≤ 32 → ReadsBy any_expression 1 (enclosed_if true (expression_pieces x)) (expression_data x)
 unfolding expressions_within
 enclosed_expression_read x w h =
-    at_expression (expressions_within 63) (expression_levels x) (levels_positive x) (enclosed_if true (expression_pieces x)) (expression_data x) rank_8 (parenthesized x (owned x w) 63 (omega arith) (omega arith))
+    at_expression (expressions_within 63) (expression_levels x) (levels_positive x) (enclosed_if true (expression_pieces x)) (expression_data x) rank_8
+    (parenthesized x (owned x w) 63 (omega arith) (omega arith))

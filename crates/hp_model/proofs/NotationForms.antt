@@ -19,10 +19,26 @@ use Rattle.serde_json.specs.Find.{as_i64, as_str}
 use Rattle.hp_model.specs.Json.{listed, list_of, Form, form_in, form_of, beside, two_in, pair_of}
 use Rattle.hp_model.specs.Parts.{is_name, name_of}
 use Rattle.hp_model.specs.NotationTree as T
-use Rattle.hp_model.specs.NotationForms.{Expression, integer, truth, text, Operator, operator_mark, operation, inverted, negated, field_of, key_of, value, now, image_field, new_image, old_image, key_in, time_of, argument, occurrence_count, expression_data, natural_data, items, list_data, form_data, Event, on_change, creation, change, deletion, on_signal, on_commit, at_moment, every_moment, or_event, then_event, closure_event, event_data, Rows, Fold, total, least, greatest, fold_word, Aggregate, count_of, fold_of, next_key, plain as F_plain, aggregate_data, Query, some_rows, no_rows, named_value, query_data, Assignment, assignment_data, Statement, Setting, create, update, setting_mark, set_object, delete, signal, emit, when, each, for_answer, with_object, with_value, subtransaction, abort, veto, veto_with, RuleOperation, operation_mark, on_rule, Body, ◌then◌, statement_data, body_data, Field, kind_word, field_data, Class, class_data, Rule, closed_data, rule_data, transaction, clock, item_data, Script, depth_data, script_data}
+use Rattle.hp_model.specs.NotationForms.{Expression, integer, truth, text, Operator, operator_mark, operation, inverted, negated, field_of, key_of, value, now, image_field}
+use Rattle.hp_model.specs.NotationForms.{new_image, old_image, key_in, time_of, argument, occurrence_count, expression_data, natural_data, items, list_data, form_data, Event}
+use Rattle.hp_model.specs.NotationForms.{on_change, creation, change, deletion, on_signal, on_commit, at_moment, every_moment, or_event, then_event, closure_event, event_data}
+use Rattle.hp_model.specs.NotationForms.{Rows, Fold, total, least, greatest, fold_word, Aggregate, count_of, fold_of, next_key, plain as F_plain, aggregate_data, Query, some_rows}
+use Rattle.hp_model.specs.NotationForms.{no_rows, named_value, query_data, Assignment, assignment_data, Statement, Setting, create, update, setting_mark, set_object, delete}
+use Rattle.hp_model.specs.NotationForms.{signal, emit, when, each, for_answer, with_object, with_value, subtransaction, abort, veto, veto_with, RuleOperation, operation_mark}
+use Rattle.hp_model.specs.NotationForms.{on_rule, Body, ◌then◌, statement_data, body_data, Field, kind_word, field_data, Class, class_data, Rule, closed_data, rule_data}
+use Rattle.hp_model.specs.NotationForms.{transaction, clock, item_data, Script, depth_data, script_data}
 use Rattle.hp_model.specs.NotationTokens.{spelling}
-use Rattle.hp_model.specs.NotationValues.{natural_of, not_negative, of_one, of_two, of_three, chosen, each_of, list_form, operator_of, expression_of_none, expressions_of_one, expressions_of_two, expression_of_one, expression_of_two, expression_of_form, expression_of, with_word, all_operators, any_expression, events_of_one, events_of_two, event_of_one, event_of_two, event_of_form, event_of, rows_of, fold_named, aggregate_of_form, aggregate_of, query_of_form, is_let_form, rows_in, query_unless_let, query_of_list, query_of, assignment_of, rule_operations, rule_operation_of, statement_of_none, statements_of_one, statement_of_one, statements_of_two, statement_of_two, statements_of_three, statement_of_three, statements_of_four, statement_of_four, statement_of_form, body_in, body_of, any_body, kind_named, field_form, class_form, mode_named, mode_of, closed_of, rule_of_parts, rule_in, rule_form, items_of_one, item_in, item_form, fitting, depth_form, script_with, script_of_version, script_form}
-use Rattle.hp_model.specs.NotationLaws.{Fits, IsWritableExpression, expression_levels, IsFitExpression, IsWritableEvent, event_levels, AreFitRows, IsFitAggregate, IsFitQuery, AreFitAssignments, AreFitExpressions, IsFitStatement, IsFitBody, statement_levels, body_levels, EachIs, IsFitField, IsFitClass, IsFitRule, IsFitItem, IsFitDepth, IsFitScript, CanonicalIsFixed}
+use Rattle.hp_model.specs.NotationValues.{natural_of, not_negative, of_one, of_two, of_three, chosen, each_of, list_form, operator_of, expression_of_none, expressions_of_one}
+use Rattle.hp_model.specs.NotationValues.{expressions_of_two, expression_of_one, expression_of_two, expression_of_form, expression_of, with_word, all_operators, any_expression}
+use Rattle.hp_model.specs.NotationValues.{events_of_one, events_of_two, event_of_one, event_of_two, event_of_form, event_of, rows_of, fold_named, aggregate_of_form, aggregate_of}
+use Rattle.hp_model.specs.NotationValues.{query_of_form, is_let_form, rows_in, query_unless_let, query_of_list, query_of, assignment_of, rule_operations, rule_operation_of}
+use Rattle.hp_model.specs.NotationValues.{statement_of_none, statements_of_one, statement_of_one, statements_of_two, statement_of_two, statements_of_three, statement_of_three}
+use Rattle.hp_model.specs.NotationValues.{statements_of_four, statement_of_four, statement_of_form, body_in, body_of, any_body, kind_named, field_form, class_form, mode_named}
+use Rattle.hp_model.specs.NotationValues.{mode_of, closed_of, rule_of_parts, rule_in, rule_form, items_of_one, item_in, item_form, fitting, depth_form, script_with}
+use Rattle.hp_model.specs.NotationValues.{script_of_version, script_form}
+use Rattle.hp_model.specs.NotationLaws.{Fits, IsWritableExpression, expression_levels, IsFitExpression, IsWritableEvent, event_levels, AreFitRows, IsFitAggregate, IsFitQuery}
+use Rattle.hp_model.specs.NotationLaws.{AreFitAssignments, AreFitExpressions, IsFitStatement, IsFitBody, statement_levels, body_levels, EachIs, IsFitField, IsFitClass, IsFitRule}
+use Rattle.hp_model.specs.NotationLaws.{IsFitItem, IsFitDepth, IsFitScript, CanonicalIsFixed}
 
 -- ---- options
 
@@ -47,7 +63,8 @@ chosen_inv : {A : Type 0} (word : List ℕ) (table : List (List ℕ × (⊤ → 
 chosen_inv word [] y e = cc
 chosen_inv word (entry ∷ entries) y e = go (chosen_inv word entries y) (bytes_eq word entry.0) refl e
   where
-    go : (chosen (beside word entries) ≡ Some y → Chosen word entries y) → (b : Bool) → bytes_eq word entry.0 ≡ b → chosen ((if b then Some entry.1 else beside word entries)) ≡ Some y → Chosen word (entry ∷ entries) y
+    go : (chosen (beside word entries) ≡ Some y → Chosen word entries y) → (b : Bool) → bytes_eq word entry.0 ≡ b → chosen ((if b then Some entry.1 else beside word entries)) ≡ Some y
+        → Chosen word (entry ∷ entries) y
     go rest true is h = inl ((bytes_decides word entry.0).0 is, h)
     go rest false is h = inr (rest h)
 
@@ -206,12 +223,18 @@ good_one : (n : ℕ) → Reader n → (word : List ℕ) (a d : Data) → IsPlain
 good_one n ih word a d plain path e h = go (chosen_inv word (expressions_of_one (expression_of n) a) e h)
   where
     go : Chosen word (expressions_of_one (expression_of n) a) e → GoodE (suc n) d e
-    go (inl x) = one_part expression_data (FitE (suc n)) inverted (codes "not") word a d (expression_of n a) expression_data (FitE n) e (ih a plain) (λ y. refl) (λ y f. (f.0, omega (arith, f.1))) x.0 x.1 path
-    go (inr (inl x)) = one_part expression_data (FitE (suc n)) negated (codes "neg") word a d (expression_of n a) expression_data (FitE n) e (ih a plain) (λ y. refl) (λ y f. (f.0, omega (arith, f.1))) x.0 x.1 path
-    go (inr (inr (inl x))) = one_part expression_data (FitE (suc n)) key_of (codes "key") word a d (name_of a) string (λ y. is_name y ≡ true) e (name_inv a) (λ y. refl) (λ y f. (f, omega arith)) x.0 x.1 path
-    go (inr (inr (inr (inl x)))) = one_part expression_data (FitE (suc n)) value (codes "value") word a d (name_of a) string (λ y. is_name y ≡ true) e (name_inv a) (λ y. refl) (λ y f. (f, omega arith)) x.0 x.1 path
-    go (inr (inr (inr (inr (inl x))))) = one_part expression_data (FitE (suc n)) key_in (codes "id") word a d (natural_of a) natural_data Fits e (natural_inv a plain) (λ y. refl) (λ y f. (f, omega arith)) x.0 x.1 path
-    go (inr (inr (inr (inr (inr (inl x)))))) = one_part expression_data (FitE (suc n)) time_of (codes "time") word a d (natural_of a) natural_data Fits e (natural_inv a plain) (λ y. refl) (λ y f. (f, omega arith)) x.0 x.1 path
+    go (inl x) = one_part expression_data (FitE (suc n)) inverted (codes "not") word a d (expression_of n a) expression_data (FitE n) e (ih a plain)
+        (λ y. refl) (λ y f. (f.0, omega (arith, f.1))) x.0 x.1 path
+    go (inr (inl x)) = one_part expression_data (FitE (suc n)) negated (codes "neg") word a d (expression_of n a) expression_data (FitE n) e (ih a plain)
+        (λ y. refl) (λ y f. (f.0, omega (arith, f.1))) x.0 x.1 path
+    go (inr (inr (inl x))) = one_part expression_data (FitE (suc n)) key_of (codes "key") word a d (name_of a) string (λ y. is_name y ≡ true) e (name_inv a)
+        (λ y. refl) (λ y f. (f, omega arith)) x.0 x.1 path
+    go (inr (inr (inr (inl x)))) = one_part expression_data (FitE (suc n)) value (codes "value") word a d (name_of a) string (λ y. is_name y ≡ true) e
+        (name_inv a) (λ y. refl) (λ y f. (f, omega arith)) x.0 x.1 path
+    go (inr (inr (inr (inr (inl x))))) = one_part expression_data (FitE (suc n)) key_in (codes "id") word a d (natural_of a) natural_data Fits e
+        (natural_inv a plain) (λ y. refl) (λ y f. (f, omega arith)) x.0 x.1 path
+    go (inr (inr (inr (inr (inr (inl x)))))) = one_part expression_data (FitE (suc n)) time_of (codes "time") word a d (natural_of a) natural_data Fits
+        e (natural_inv a plain) (λ y. refl) (λ y f. (f, omega arith)) x.0 x.1 path
     go (inr (inr (inr (inr (inr (inr x)))))) = absurd x
 
 operator_inv : (word : List ℕ) (ops : List Operator) (op : Operator) → Beside word (map with_word ops) op → word ≡ spelling (operator_mark op)
@@ -224,17 +247,23 @@ good_two : (n : ℕ) → Reader n → (word : List ℕ) (a b d : Data) → IsPla
 good_two n ih word a b d plain_a plain_b path e h = go (or_inv _ _ e h)
   where
     other : Chosen word (expressions_of_two a b) e → GoodE (suc n) d e
-    other (inl x) = two_parts expression_data (FitE (suc n)) field_of (codes "of") word a b d (name_of a) (name_of b) string string (λ y. is_name y ≡ true) (λ y. is_name y ≡ true) e (name_inv a) (name_inv b) (λ y z. refl) (λ y z f g. ((f, g), omega arith)) x.0 x.1 path
-    other (inr (inl x)) = two_parts expression_data (FitE (suc n)) (image_field new_image) (codes "new") word a b d (natural_of a) (name_of b) natural_data string Fits (λ y. is_name y ≡ true) e (natural_inv a plain_a) (name_inv b) (λ y z. refl) (λ y z f g. ((f, g), omega arith)) x.0 x.1 path
-    other (inr (inr (inl x))) = two_parts expression_data (FitE (suc n)) (image_field old_image) (codes "old") word a b d (natural_of a) (name_of b) natural_data string Fits (λ y. is_name y ≡ true) e (natural_inv a plain_a) (name_inv b) (λ y z. refl) (λ y z f g. ((f, g), omega arith)) x.0 x.1 path
-    other (inr (inr (inr (inl x)))) = two_parts expression_data (FitE (suc n)) argument (codes "arg") word a b d (natural_of a) (natural_of b) natural_data natural_data Fits Fits e (natural_inv a plain_a) (natural_inv b plain_b) (λ y z. refl) (λ y z f g. ((f, g), omega arith)) x.0 x.1 path
+    other (inl x) = two_parts expression_data (FitE (suc n)) field_of (codes "of") word a b d (name_of a) (name_of b) string string (λ y. is_name y ≡ true)
+        (λ y. is_name y ≡ true) e (name_inv a) (name_inv b) (λ y z. refl) (λ y z f g. ((f, g), omega arith)) x.0 x.1 path
+    other (inr (inl x)) = two_parts expression_data (FitE (suc n)) (image_field new_image) (codes "new") word a b d (natural_of a) (name_of b) natural_data
+        string Fits (λ y. is_name y ≡ true) e (natural_inv a plain_a) (name_inv b) (λ y z. refl) (λ y z f g. ((f, g), omega arith)) x.0 x.1 path
+    other (inr (inr (inl x))) = two_parts expression_data (FitE (suc n)) (image_field old_image) (codes "old") word a b d (natural_of a) (name_of b)
+        natural_data string Fits (λ y. is_name y ≡ true) e (natural_inv a plain_a) (name_inv b) (λ y z. refl) (λ y z f g. ((f, g), omega arith)) x.0 x.1 path
+    other (inr (inr (inr (inl x)))) = two_parts expression_data (FitE (suc n)) argument (codes "arg") word a b d (natural_of a) (natural_of b) natural_data
+        natural_data Fits Fits e (natural_inv a plain_a) (natural_inv b plain_b) (λ y z. refl) (λ y z f g. ((f, g), omega arith)) x.0 x.1 path
     other (inr (inr (inr (inr x)))) = absurd x
 
-    go : (option_and_then (λ op. of_two (operation op) (expression_of n a) (expression_of n b)) (operator_of word) ≡ Some e) ⊎ (chosen (beside word (expressions_of_two a b)) ≡ Some e) → GoodE (suc n) d e
+    go : (option_and_then (λ op. of_two (operation op) (expression_of n a) (expression_of n b)) (operator_of word) ≡ Some e) ⊎ (chosen (beside word (expressions_of_two a b)) ≡ Some e)
+        → GoodE (suc n) d e
     go (inl x) =
         let r = then_inv (λ (op : Operator). of_two (operation op) (expression_of n a) (expression_of n b)) (operator_of word) e x in
         let is = operator_inv word all_operators r.0 (beside_inv word (map with_word all_operators) r.0 r.1) in
-        two_parts expression_data (FitE (suc n)) (operation r.0) (spelling (operator_mark r.0)) word a b d (expression_of n a) (expression_of n b) expression_data expression_data (FitE n) (FitE n) e (ih a plain_a) (ih b plain_b) (λ y z. refl)
+        two_parts expression_data (FitE (suc n)) (operation r.0) (spelling (operator_mark r.0)) word a b d (expression_of n a) (expression_of n b)
+        expression_data expression_data (FitE n) (FitE n) e (ih a plain_a) (ih b plain_b) (λ y z. refl)
         (λ y z f g. ((f.0, g.0), omega (arith, f.1, g.1))) is r.2 path
     go (inr x) = other (chosen_inv word (expressions_of_two a b) e x)
 
@@ -248,7 +277,8 @@ good_form n ih word (a ∷ b ∷ c ∷ ps) d plain path e h = cc
 plain_parts : (d : Data) (word : List ℕ) (ps : List Data) → IsPlain d → d ≡ list_data (string word ∷ ps) → ArePlain (items ps)
 plain_parts d word ps plain path = (subst IsPlain path plain).1
 
-fitting_inv : (z : ℤ) (n : ℕ) (d : Data) (e : Expression) → (fits_64 z ≡ true → IsWritableExpression (integer z)) → expression_data (integer z) ≡ d → option_map integer (fitting z) ≡ Some e → GoodE (suc n) d e
+fitting_inv : (z : ℤ) (n : ℕ) (d : Data) (e : Expression) → (fits_64 z ≡ true → IsWritableExpression (integer z)) → expression_data (integer z) ≡ d
+    → option_map integer (fitting z) ≡ Some e → GoodE (suc n) d e
 fitting_inv z n d e fit path h = go (fits_64 z) refl h
   where
     go : (b : Bool) → fits_64 z ≡ b → option_map integer (if b then Some z else None) ≡ Some e → GoodE (suc n) d e
@@ -305,21 +335,26 @@ event_one n word a d plain path e h = go (chosen_inv word (events_of_one a) e h)
     go : Chosen word (events_of_one a) e → (event_data e ≡ d) × FitV (suc n) e
     go (inl x) = one_part event_data (FitV (suc n)) (on_change creation) (codes "create") word a d (name_of a) string OkName e (name_inv a) (λ y. refl) (λ y f. (f, omega arith)) x.0 x.1 path
     go (inr (inl x)) = one_part event_data (FitV (suc n)) (on_change change) (codes "update") word a d (name_of a) string OkName e (name_inv a) (λ y. refl) (λ y f. (f, omega arith)) x.0 x.1 path
-    go (inr (inr (inl x))) = one_part event_data (FitV (suc n)) (on_change deletion) (codes "delete") word a d (name_of a) string OkName e (name_inv a) (λ y. refl) (λ y f. (f, omega arith)) x.0 x.1 path
+    go (inr (inr (inl x))) = one_part event_data (FitV (suc n)) (on_change deletion) (codes "delete") word a d (name_of a) string OkName e (name_inv a)
+        (λ y. refl) (λ y f. (f, omega arith)) x.0 x.1 path
     go (inr (inr (inr (inl x)))) = one_part event_data (FitV (suc n)) on_signal (codes "signal") word a d (name_of a) string OkName e (name_inv a) (λ y. refl) (λ y f. (f, omega arith)) x.0 x.1 path
-    go (inr (inr (inr (inr (inl x))))) = one_part event_data (FitV (suc n)) at_moment (codes "at") word a d (natural_of a) natural_data Fits e (natural_inv a plain) (λ y. refl) (λ y f. (f, omega arith)) x.0 x.1 path
+    go (inr (inr (inr (inr (inl x))))) = one_part event_data (FitV (suc n)) at_moment (codes "at") word a d (natural_of a) natural_data Fits e (natural_inv a plain)
+        (λ y. refl) (λ y f. (f, omega arith)) x.0 x.1 path
     go (inr (inr (inr (inr (inr x))))) = absurd x
 
-event_two : (n : ℕ) → EventReader n → (word : List ℕ) (a b d : Data) → IsPlain a → IsPlain b → list_data (string word ∷ a ∷ b ∷ []) ≡ d → Part (event_of_two (event_of n) word a b) d event_data (FitV (suc n))
+event_two : (n : ℕ) → EventReader n → (word : List ℕ) (a b d : Data) → IsPlain a → IsPlain b → list_data (string word ∷ a ∷ b ∷ []) ≡ d
+    → Part (event_of_two (event_of n) word a b) d event_data (FitV (suc n))
 event_two n ih word a b d plain_a plain_b path e h = go (chosen_inv word (events_of_two (event_of n) a b) e h)
   where
-    joined : (make : Event → Event → Event) (w : List ℕ) → ((y z : Event) → event_data (make y z) ≡ form_data w (event_data y ∷ event_data z ∷ [])) → ((y z : Event) → FitV n y → FitV n z → FitV (suc n) (make y z))
+    joined : (make : Event → Event → Event) (w : List ℕ) → ((y z : Event) → event_data (make y z) ≡ form_data w (event_data y ∷ event_data z ∷ []))
+        → ((y z : Event) → FitV n y → FitV n z → FitV (suc n) (make y z))
         → word ≡ w → of_two make (event_of n a) (event_of n b) ≡ Some e → (event_data e ≡ d) × FitV (suc n) e
     joined make w spelled good is x =
         two_parts event_data (FitV (suc n)) make w word a b d (event_of n a) (event_of n b) event_data event_data (FitV n) (FitV n) e (ih a plain_a) (ih b plain_b) spelled good is x path
 
     go : Chosen word (events_of_two (event_of n) a b) e → (event_data e ≡ d) × FitV (suc n) e
-    go (inl x) = two_parts event_data (FitV (suc n)) every_moment (codes "every") word a b d (natural_of a) (natural_of b) natural_data natural_data Fits Fits e (natural_inv a plain_a) (natural_inv b plain_b) (λ y z. refl) (λ y z f g. ((f, g), omega arith)) x.0 x.1 path
+    go (inl x) = two_parts event_data (FitV (suc n)) every_moment (codes "every") word a b d (natural_of a) (natural_of b) natural_data natural_data Fits
+        Fits e (natural_inv a plain_a) (natural_inv b plain_b) (λ y z. refl) (λ y z f g. ((f, g), omega arith)) x.0 x.1 path
     go (inr (inl x)) = joined or_event (codes "or") (λ y z. refl) (λ y z f g. ((f.0, g.0), omega (arith, f.1, g.1))) x.0 x.1
     go (inr (inr (inl x))) = joined then_event (codes "seq") (λ y z. refl) (λ y z f g. ((f.0, g.0), omega (arith, f.1, g.1))) x.0 x.1
     go (inr (inr (inr (inl x)))) = joined closure_event (codes "closure") (λ y z. refl) (λ y z f g. ((f.0, g.0), omega (arith, f.1, g.1))) x.0 x.1
@@ -333,7 +368,8 @@ test_inv false o y e = cc
 word_is : (a b : List ℕ) → bytes_eq a b ≡ true → a ≡ b
 word_is a b e = (bytes_decides a b).0 e
 
-event_form_inv : (n : ℕ) → EventReader n → (word : List ℕ) (ps : List Data) (d : Data) → ArePlain (items ps) → list_data (string word ∷ ps) ≡ d → Part (event_of_form (event_of n) word ps) d event_data (FitV (suc n))
+event_form_inv : (n : ℕ) → EventReader n → (word : List ℕ) (ps : List Data) (d : Data) → ArePlain (items ps) → list_data (string word ∷ ps) ≡ d
+    → Part (event_of_form (event_of n) word ps) d event_data (FitV (suc n))
 event_form_inv n ih word [] d plain path e h =
     let t = test_inv (bytes_eq word (codes "commit")) (Some on_commit) e h in
     let same : on_commit ≡ e = cc in
@@ -430,7 +466,8 @@ query_form_inv true word (x ∷ []) d plain path q h = cc
 query_form_inv false word (x ∷ []) d plain path q h = cc
 query_form_inv true word (x ∷ a ∷ []) d plain path q h =
     let t = test_inv (bytes_eq word (codes "let")) (of_two named_value (name_of x) (aggregate_of a)) q h in
-    two_parts query_data (IsFitQuery true) named_value (codes "let") word x a d (name_of x) (aggregate_of a) string aggregate_data OkName IsFitAggregate q (name_inv x) (aggregate_inv a plain.1.0) (λ y z. refl)
+    two_parts query_data (IsFitQuery true) named_value (codes "let") word x a d (name_of x) (aggregate_of a) string aggregate_data OkName IsFitAggregate
+    q (name_inv x) (aggregate_inv a plain.1.0) (λ y z. refl)
     (λ y z f g. (refl, f, g)) (word_is word (codes "let") t.0) t.1 path
 query_form_inv false word (x ∷ a ∷ []) d plain path q h = cc
 query_form_inv lets word (x ∷ c ∷ e ∷ []) d plain path q h =
@@ -565,24 +602,33 @@ statement_one : (n : ℕ) (word : List ℕ) (a d : Data) → IsPlain a → list_
 statement_one n word a d plain path y h = go (or_inv _ _ y h)
   where
     other : Chosen word (statements_of_one a) y → (statement_data y ≡ d) × FitS n y
-    other (inl x) = one_part statement_data (FitS n) emit (codes "emit") word a d (any_expression a) expression_data IsFitExpression y (any_inv a plain) (λ z. refl) (λ z f. (f, omega arith)) x.0 x.1 path
-    other (inr (inl x)) = one_part statement_data (FitS n) veto_with (codes "veto") word a d (any_expression a) expression_data IsFitExpression y (any_inv a plain) (λ z. refl) (λ z f. (f, omega arith)) x.0 x.1 path
+    other (inl x) = one_part statement_data (FitS n) emit (codes "emit") word a d (any_expression a) expression_data IsFitExpression y (any_inv a plain)
+        (λ z. refl) (λ z f. (f, omega arith)) x.0 x.1 path
+    other (inr (inl x)) = one_part statement_data (FitS n) veto_with (codes "veto") word a d (any_expression a) expression_data IsFitExpression y
+        (any_inv a plain) (λ z. refl) (λ z f. (f, omega arith)) x.0 x.1 path
     other (inr (inr x)) = absurd x
 
     go : (option_and_then (λ op. of_one (on_rule op) (name_of a)) (rule_operation_of word) ≡ Some y) ⊎ (chosen (beside word (statements_of_one a)) ≡ Some y) → (statement_data y ≡ d) × FitS n y
     go (inl x) =
         let r = then_inv (λ (op : RuleOperation). of_one (on_rule op) (name_of a)) (rule_operation_of word) y x in
-        one_part statement_data (FitS n) (on_rule r.0) (spelling (operation_mark r.0)) word a d (name_of a) string OkName y (name_inv a) (λ z. refl) (λ z f. (f, omega arith)) (rule_operation_inv word r.0 r.1) r.2 path
+        one_part statement_data (FitS n) (on_rule r.0) (spelling (operation_mark r.0)) word a d (name_of a) string OkName y (name_inv a) (λ z. refl)
+        (λ z f. (f, omega arith)) (rule_operation_inv word r.0 r.1) r.2 path
     go (inr x) = other (chosen_inv word (statements_of_one a) y x)
 
-statement_two : (n : ℕ) → BodyReader n → (word : List ℕ) (a b d : Data) → IsPlain a → IsPlain b → list_data (string word ∷ a ∷ b ∷ []) ≡ d → Part (statement_of_two (body_of n) word a b) d statement_data (FitS n)
+statement_two : (n : ℕ) → BodyReader n → (word : List ℕ) (a b d : Data) → IsPlain a → IsPlain b → list_data (string word ∷ a ∷ b ∷ []) ≡ d
+    → Part (statement_of_two (body_of n) word a b) d statement_data (FitS n)
 statement_two n ih word a b d plain_a plain_b path y h = go (chosen_inv word (statements_of_two (body_of n) a b) y h)
   where
     go : Chosen word (statements_of_two (body_of n) a b) y → (statement_data y ≡ d) × FitS n y
-    go (inl x) = two_parts statement_data (FitS n) delete (codes "delete") word a b d (name_of a) (any_expression b) string expression_data OkName IsFitExpression y (name_inv a) (any_inv b plain_b) (λ z v. refl) (λ z v f g. ((f, g), omega arith)) x.0 x.1 path
-    go (inr (inl x)) = two_parts statement_data (FitS n) signal (codes "signal") word a b d (name_of a) (list_form any_expression b) string (λ es. list_data (map expression_data es)) OkName (EachIs IsFitExpression) y (name_inv a) (list_form_inv any_expression expression_data IsFitExpression any_inv b plain_b) (λ z v. refl) (λ z v f g. ((f, fit_expressions v g), omega arith)) x.0 x.1 path
-    go (inr (inr (inl x))) = two_parts statement_data (FitS n) for_answer (codes "for") word a b d (name_of a) (body_of n b) string (λ c. array (body_data c)) OkName (FitB n) y (name_inv a) (ih b plain_b) (λ z v. refl) (λ z v f g. ((f, g.0), omega (arith, g.1))) x.0 x.1 path
-    go (inr (inr (inr (inl x)))) = two_parts statement_data (FitS n) subtransaction (codes "sub") word a b d (body_of n a) (body_of n b) (λ c. array (body_data c)) (λ c. array (body_data c)) (FitB n) (FitB n) y (ih a plain_a) (ih b plain_b) (λ z v. refl) (λ z v f g. ((f.0, g.0), omega (arith, f.1, g.1))) x.0 x.1 path
+    go (inl x) = two_parts statement_data (FitS n) delete (codes "delete") word a b d (name_of a) (any_expression b) string expression_data OkName
+        IsFitExpression y (name_inv a) (any_inv b plain_b) (λ z v. refl) (λ z v f g. ((f, g), omega arith)) x.0 x.1 path
+    go (inr (inl x)) = two_parts statement_data (FitS n) signal (codes "signal") word a b d (name_of a) (list_form any_expression b) string
+        (λ es. list_data (map expression_data es)) OkName (EachIs IsFitExpression) y (name_inv a) (list_form_inv any_expression expression_data IsFitExpression any_inv b plain_b)
+        (λ z v. refl) (λ z v f g. ((f, fit_expressions v g), omega arith)) x.0 x.1 path
+    go (inr (inr (inl x))) = two_parts statement_data (FitS n) for_answer (codes "for") word a b d (name_of a) (body_of n b) string (λ c. array (body_data c))
+        OkName (FitB n) y (name_inv a) (ih b plain_b) (λ z v. refl) (λ z v f g. ((f, g.0), omega (arith, g.1))) x.0 x.1 path
+    go (inr (inr (inr (inl x)))) = two_parts statement_data (FitS n) subtransaction (codes "sub") word a b d (body_of n a) (body_of n b) (λ c. array (body_data c))
+        (λ c. array (body_data c)) (FitB n) (FitB n) y (ih a plain_a) (ih b plain_b) (λ z v. refl) (λ z v f g. ((f.0, g.0), omega (arith, f.1, g.1))) x.0 x.1 path
     go (inr (inr (inr (inr x)))) = absurd x
 
 three_parts : {A B C X : Type 0} (data_of : X → Data) (Good : X → Type 0) (make : A → B → C → X) (w word : List ℕ) (a b c d : Data) (read_a : Option A) (read_b : Option B) (read_c : Option C)
@@ -608,15 +654,19 @@ statement_three : (n : ℕ) → BodyReader n → (word : List ℕ) (a b c d : Da
 statement_three n ih word a b c d plain_a plain_b plain_c path y h = go (chosen_inv word (statements_of_three (body_of n) a b c) y h)
   where
     set : (t : Setting) → word ≡ spelling (setting_mark t) → of_three (set_object t) (name_of a) (any_expression b) (list_form assignment_of c) ≡ Some y → (statement_data y ≡ d) × FitS n y
-    set t is x = three_parts statement_data (FitS n) (set_object t) (spelling (setting_mark t)) word a b c d (name_of a) (any_expression b) (list_form assignment_of c) string expression_data assignments_data OkName IsFitExpression (EachIs IsFitAssignment) y
-        (name_inv a) (any_inv b plain_b) (list_form_inv assignment_of assignment_data IsFitAssignment assignment_inv c plain_c) (λ z v q. refl) (λ z v q f g k. ((f, g, fit_assignments q k), omega arith)) is x path
+    set t is x = three_parts statement_data (FitS n) (set_object t) (spelling (setting_mark t)) word a b c d (name_of a) (any_expression b) (list_form assignment_of c)
+        string expression_data assignments_data OkName IsFitExpression (EachIs IsFitAssignment) y
+        (name_inv a) (any_inv b plain_b) (list_form_inv assignment_of assignment_data IsFitAssignment assignment_inv c plain_c) (λ z v q. refl)
+        (λ z v q f g k. ((f, g, fit_assignments q k), omega arith)) is x path
 
     go : Chosen word (statements_of_three (body_of n) a b c) y → (statement_data y ≡ d) × FitS n y
     go (inl x) = set create x.0 x.1
     go (inr (inl x)) = set update x.0 x.1
-    go (inr (inr (inl x))) = three_parts statement_data (FitS n) when (codes "if") word a b c d (any_expression a) (body_of n b) (body_of n c) expression_data (λ q. array (body_data q)) (λ q. array (body_data q)) IsFitExpression (FitB n) (FitB n) y
+    go (inr (inr (inl x))) = three_parts statement_data (FitS n) when (codes "if") word a b c d (any_expression a) (body_of n b) (body_of n c) expression_data
+        (λ q. array (body_data q)) (λ q. array (body_data q)) IsFitExpression (FitB n) (FitB n) y
         (any_inv a plain_a) (ih b plain_b) (ih c plain_c) (λ z v q. refl) (λ z v q f g k. ((f, g.0, k.0), omega (arith, g.1, k.1))) x.0 x.1 path
-    go (inr (inr (inr (inl x)))) = three_parts statement_data (FitS n) with_value (codes "let") word a b c d (name_of a) (aggregate_of b) (body_of n c) string aggregate_data (λ q. array (body_data q)) OkName IsFitAggregate (FitB n) y
+    go (inr (inr (inr (inl x)))) = three_parts statement_data (FitS n) with_value (codes "let") word a b c d (name_of a) (aggregate_of b) (body_of n c)
+        string aggregate_data (λ q. array (body_data q)) OkName IsFitAggregate (FitB n) y
         (name_inv a) (aggregate_inv b plain_b) (ih c plain_c) (λ z v q. refl) (λ z v q f g k. ((f, g, k.0), omega (arith, k.1))) x.0 x.1 path
     go (inr (inr (inr (inr x)))) = absurd x
 
@@ -628,8 +678,11 @@ statement_four n ih word a b c e d plain_a plain_b plain_c plain_e path y h = go
     go (inl x) =
         let t = two_inv each (rows_of a b c) (body_of n e) y x.1 in
         let r = rows_inv a b c plain_c t.0 t.2 in
-        let q = ih e plain_e t.1 t.3 in
-        (ap statement_data (sym t.4) ∙ (λ i. form_data (sym x.0 i) (r.same_name i ∷ r.same_class i ∷ r.same_predicate i ∷ q.0 i ∷ [])) ∙ path, subst (FitS n) t.4 ((r.fit, q.1.0), omega (arith, q.1.1)))
+        let q = ih e plain_e t.1 t.3 in (
+          ap statement_data (sym t.4) ∙ (λ i. form_data (sym x.0 i) (r.same_name i ∷ r.same_class i ∷ r.same_predicate i ∷ q.0 i ∷ []))
+              ∙ path,
+          subst (FitS n) t.4 ((r.fit, q.1.0), omega (arith, q.1.1)),
+        )
     go (inr (inl x)) =
         let o = then_inv (λ (z : List ℕ). of_three (with_object z) (name_of b) (any_expression c) (body_of n e)) (name_of a) y x.1 in
         let m = name_inv a o.0 o.1 in
@@ -640,7 +693,8 @@ statement_four n ih word a b c e d plain_a plain_b plain_c plain_e path y h = go
         (ap statement_data (sym t.6) ∙ (λ i. form_data (sym x.0 i) (m.0 i ∷ p.0 i ∷ v.0 i ∷ q.0 i ∷ [])) ∙ path, subst (FitS n) t.6 ((m.1, p.1, v.1, q.1.0), omega (arith, q.1.1)))
     go (inr (inr x)) = absurd x
 
-statement_form_inv : (n : ℕ) → BodyReader n → (word : List ℕ) (ps : List Data) (d : Data) → ArePlain (items ps) → list_data (string word ∷ ps) ≡ d → Part (statement_of_form (body_of n) word ps) d statement_data (FitS n)
+statement_form_inv : (n : ℕ) → BodyReader n → (word : List ℕ) (ps : List Data) (d : Data) → ArePlain (items ps) → list_data (string word ∷ ps) ≡ d
+    → Part (statement_of_form (body_of n) word ps) d statement_data (FitS n)
 statement_form_inv n ih word [] d plain path y h = statement_none n word d path y h
 statement_form_inv n ih word (a ∷ []) d plain path y h = statement_one n word a d plain.0 path y h
 statement_form_inv n ih word (a ∷ b ∷ []) d plain path y h = statement_two n ih word a b d plain.0 plain.1.0 path y h
@@ -742,7 +796,8 @@ rule_parts_inv : (lets : Bool) (x e m qs k b : Data) (c : List Data) → ArePlai
 unfolding make_rule
 rule_parts_inv lets x e m qs k b c plain d path r h =
     let last = λ (is_closed : Bool) (name : List ℕ) (event : Event) (mode : Coupling). of_three (make_rule name is_closed event mode) (list_form (query_of lets) qs) (mode_of k) (any_body b) in
-    let a1 = then_inv (λ (is_closed : Bool). option_and_then (λ (name : List ℕ). option_and_then (λ (event : Event). option_and_then (last is_closed name event) (mode_of m)) (event_of 64 e)) (name_of x)) (closed_of c) r h in
+    let a1 = then_inv (λ (is_closed : Bool). option_and_then (λ (name : List ℕ). option_and_then (λ (event : Event). option_and_then (last is_closed name event) (mode_of m)) (event_of 64 e))
+    (name_of x)) (closed_of c) r h in
     let a2 = then_inv (λ (name : List ℕ). option_and_then (λ (event : Event). option_and_then (last a1.0 name event) (mode_of m)) (event_of 64 e)) (name_of x) r a1.2 in
     let a3 = then_inv (λ (event : Event). option_and_then (last a1.0 a2.0 event) (mode_of m)) (event_of 64 e) r a2.2 in
     let a4 = then_inv (last a1.0 a2.0 a3.0) (mode_of m) r a3.2 in

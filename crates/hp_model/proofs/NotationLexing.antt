@@ -1,5 +1,6 @@
 -- The tokens of the text of some pieces are their tokens.
-use Rattle.std.proofs.Common.{◌≡◌, refl, sym, ap, ◌∙◌, subst, ℕ, zero, suc, ◌+◌, ◌*◌, ◌<◌, ◌≤◌, ◌^◌, Bool, true, false, cond, ◌&&◌, ◌||◌, ◌==◌, List, [], ◌∷◌, ◌++◌, length, take, drop, map, get_or, codes, decimal, replicate, Option, Some, None, option_map, append_assoc, arith, inl, inr, ◌⊎◌}
+use Rattle.std.proofs.Common.{◌≡◌, refl, sym, ap, ◌∙◌, subst, ℕ, zero, suc, ◌+◌, ◌*◌, ◌<◌, ◌≤◌, ◌^◌, Bool, true, false, cond, ◌&&◌, ◌||◌, ◌==◌, List, [], ◌∷◌, ◌++◌, length, take}
+use Rattle.std.proofs.Common.{drop, map, get_or, codes, decimal, replicate, Option, Some, None, option_map, append_assoc, arith, inl, inr, ◌⊎◌}
 use Rattle.std.specs.Prelude.{nat_lt, nat_le, slice_index, flat_map, if◌then◌else◌}
 use Rattle.std.proofs.lemmas.Bool.{cases_eq, cases_lt, ne_eqb, le-ltb, le-leb, lt-leb, ltb-true, and_from, and_parts, or_parts, or_from, true≢false}
 use Rattle.std.proofs.Math.Seq.{take-append_seam}
@@ -12,7 +13,14 @@ use Rattle.std.specs.Str.Parse.{AllDigits, digits_value}
 use Rattle.json.specs.Text.{code_unit, short_escape}
 use Rattle.hp_model.specs.Report.{escaped}
 use Rattle.hp_model.specs.Parts.{is_name, is_name_byte}
-use Rattle.hp_model.specs.NotationTokens.{Mark, on_mark, if_mark, do_mark, where_mark, as_mark, set_mark, else_mark, otherwise_mark, then_mark, until_mark, and_mark, or_mark, not_mark, true_mark, false_mark, new_mark, old_mark, event_mark, key_mark, immediate_mark, deferred_mark, separate_mark, dependent_mark, exclusive_mark, create_mark, update_mark, delete_mark, signal_mark, emit_mark, each_mark, for_mark, with_mark, sub_mark, abort_mark, veto_mark, install_mark, enable_mark, disable_mark, remove_mark, fire_mark, open_brace, close_brace, open_parenthesis, close_parenthesis, open_bracket, close_bracket, comma, colon, semicolon, point, equal_sign, unequal_sign, less_sign, at_most_sign, greater_sign, at_least_sign, plus_sign, minus_sign, times_sign, divided_sign, percent_sign, Token, mark, word, quoted, number, string, spelling, reserved_word, word_token, word_rest, word_lexeme, string_lexeme, quoted_word_lexeme, number_lexeme, closed, content, found, faulty, letter, digit, beginning, lexeme, lexeme_at, Tokens, token, ending, tokens_from, tokens_at, tokens, tokens_of}
+use Rattle.hp_model.specs.NotationTokens.{Mark, on_mark, if_mark, do_mark, where_mark, as_mark, set_mark, else_mark, otherwise_mark, then_mark, until_mark, and_mark, or_mark}
+use Rattle.hp_model.specs.NotationTokens.{not_mark, true_mark, false_mark, new_mark, old_mark, event_mark, key_mark, immediate_mark, deferred_mark, separate_mark, dependent_mark}
+use Rattle.hp_model.specs.NotationTokens.{exclusive_mark, create_mark, update_mark, delete_mark, signal_mark, emit_mark, each_mark, for_mark, with_mark, sub_mark, abort_mark}
+use Rattle.hp_model.specs.NotationTokens.{veto_mark, install_mark, enable_mark, disable_mark, remove_mark, fire_mark, open_brace, close_brace, open_parenthesis, close_parenthesis}
+use Rattle.hp_model.specs.NotationTokens.{open_bracket, close_bracket, comma, colon, semicolon, point, equal_sign, unequal_sign, less_sign, at_most_sign, greater_sign}
+use Rattle.hp_model.specs.NotationTokens.{at_least_sign, plus_sign, minus_sign, times_sign, divided_sign, percent_sign, Token, mark, word, quoted, number, string, spelling}
+use Rattle.hp_model.specs.NotationTokens.{reserved_word, word_token, word_rest, word_lexeme, string_lexeme, quoted_word_lexeme, number_lexeme, closed, content, found, faulty}
+use Rattle.hp_model.specs.NotationTokens.{letter, digit, beginning, lexeme, lexeme_at, Tokens, token, ending, tokens_from, tokens_at, tokens, tokens_of}
 use Rattle.hp_model.specs.NotationPhrases.{is_mark}
 use Rattle.hp_model.specs.NotationPrint.{Gap, tight, space, line, paragraph, Pieces, token_text, is_wordlike, would_join, widened, gap_after, gap_text, text_after, text_of}
 use Rattle.hp_model.specs.NotationLaws.{IsSpelt, AreSpelt, all_tokens, token_of}
@@ -84,7 +92,8 @@ quoted_found b bs r ok =
     let whole = (b ∷ bs) ++ 96 ∷ r in
     ap (λ s. if s then quoted_word_lexeme whole (suc (word_rest (bs ++ 96 ∷ r))) else faulty 1) parts.0
     ∙ ap (λ n. quoted_word_lexeme whole (suc n)) (run_to is_name_byte bs (96 ∷ r) size.1 refl)
-    ∙ ap (λ w. if nat_le (length (b ∷ w)) 32 then (if slice_index (drop (length bs) (bs ++ 96 ∷ r)) 0 == 96 then found (quoted (b ∷ w)) (suc (suc (length bs))) else faulty (suc (suc (length bs)))) else faulty 0) (take-append_seam bs (96 ∷ r))
+    ∙ ap (λ w. if nat_le (length (b ∷ w)) 32 then (if slice_index (drop (length bs) (bs ++ 96 ∷ r)) 0 == 96 then found (quoted (b ∷ w)) (suc (suc (length bs)))
+    else faulty (suc (suc (length bs)))) else faulty 0) (take-append_seam bs (96 ∷ r))
     ∙ ap (λ s. if s then (if slice_index (drop (length bs) (bs ++ 96 ∷ r)) 0 == 96 then found (quoted (b ∷ bs)) (suc (suc (length bs))) else faulty (suc (suc (length bs)))) else faulty 0) short
     ∙ ap (λ l. if slice_index l 0 == 96 then found (quoted (b ∷ bs)) (suc (suc (length bs))) else faulty (suc (suc (length bs)))) (drop_seam bs (96 ∷ r))
 
@@ -186,7 +195,82 @@ each_sound P (suc n) h x lt = go (each_sound P n h.1 x) (cases_eq x n)
 
 controls_escaped : Each IsEscaped 32
 unfolding content code_unit short_escape encode_utf8 longer
-controls_escaped = (λ t n r e. rw e refl, (λ t n r e. rw e refl, (λ t n r e. rw e refl, (λ t n r e. rw e refl, (λ t n r e. rw e refl, (λ t n r e. rw e refl, (λ t n r e. rw e refl, (λ t n r e. rw e refl, (λ t n r e. rw e refl, (λ t n r e. rw e refl, (λ t n r e. rw e refl, (λ t n r e. rw e refl, (λ t n r e. rw e refl, (λ t n r e. rw e refl, (λ t n r e. rw e refl, (λ t n r e. rw e refl, (λ t n r e. rw e refl, (λ t n r e. rw e refl, (λ t n r e. rw e refl, (λ t n r e. rw e refl, (λ t n r e. rw e refl, (λ t n r e. rw e refl, (λ t n r e. rw e refl, (λ t n r e. rw e refl, (λ t n r e. rw e refl, (λ t n r e. rw e refl, (λ t n r e. rw e refl, (λ t n r e. rw e refl, (λ t n r e. rw e refl, (λ t n r e. rw e refl, (λ t n r e. rw e refl, (λ t n r e. rw e refl, tt))))))))))))))))))))))))))))))))
+controls_escaped = (
+  λ t n r e. rw e refl,
+  (
+    λ t n r e. rw e refl,
+    (
+      λ t n r e. rw e refl,
+      (
+        λ t n r e. rw e refl,
+        (
+          λ t n r e. rw e refl,
+          (
+            λ t n r e. rw e refl,
+            (
+              λ t n r e. rw e refl,
+              (
+                λ t n r e. rw e refl,
+                (
+                  λ t n r e. rw e refl,
+                  (
+                    λ t n r e. rw e refl,
+                    (
+                      λ t n r e. rw e refl,
+                      (
+                        λ t n r e. rw e refl,
+                        (
+                          λ t n r e. rw e refl,
+                          (
+                            λ t n r e. rw e refl,
+                            (
+                              λ t n r e. rw e refl,
+                              (
+                                λ t n r e. rw e refl,
+                                (
+                                  λ t n r e. rw e refl,
+                                  (
+                                    λ t n r e. rw e refl,
+                                    (
+                                      λ t n r e. rw e refl,
+                                      (
+                                        λ t n r e. rw e refl,
+                                        (
+                                          λ t n r e. rw e refl,
+                                          (
+                                            λ t n r e. rw e refl,
+                                            (
+                                              λ t n r e. rw e refl,
+                                              (
+                                                λ t n r e. rw e refl,
+                                                (
+                                                  λ t n r e. rw e refl,
+                                                  (λ t n r e. rw e refl, (λ t n r e. rw e refl, (λ t n r e. rw e refl, (λ t n r e. rw e refl, (λ t n r e. rw e refl, (λ t n r e. rw e refl, (λ t n r e. rw e refl, tt))))))),
+                                                ),
+                                              ),
+                                            ),
+                                          ),
+                                        ),
+                                      ),
+                                    ),
+                                  ),
+                                ),
+                              ),
+                            ),
+                          ),
+                        ),
+                      ),
+                    ),
+                  ),
+                ),
+              ),
+            ),
+          ),
+        ),
+      ),
+    ),
+  ),
+)
 
 quote_escaped : IsEscaped 34
 unfolding content short_escape longer

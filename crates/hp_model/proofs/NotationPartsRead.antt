@@ -3,7 +3,8 @@ use Rattle.std.proofs.Common.{◌≡◌, refl, ap, ◌∙◌, ℕ, suc, ◌<◌,
 use Rattle.std.specs.Prelude.{bytes_eq, is_some}
 use Rattle.serde_json.specs.Data.{Data, string, array}
 use Rattle.hp_model.specs.Values.{◌>>=◌}
-use Rattle.hp_model.specs.NotationTokens.{Mark, where_mark, set_mark, open_parenthesis, close_parenthesis, comma, equal_sign, Token, mark, word, quoted, number, string as string_token, Tokens, token, ending, unreadable, place, size}
+use Rattle.hp_model.specs.NotationTokens.{Mark, where_mark, set_mark, open_parenthesis, close_parenthesis, comma, equal_sign, Token, mark, word, quoted, number}
+use Rattle.hp_model.specs.NotationTokens.{string as string_token, Tokens, token, ending, unreadable, place, size}
 use Rattle.hp_model.specs.NotationTree as T
 use Rattle.hp_model.specs.NotationTree.{Node, data_of, form, Phrase}
 use Rattle.hp_model.specs.NotationPhrases as P
@@ -11,8 +12,11 @@ use Rattle.hp_model.specs.NotationPhrases.{is_mark, is_word, begins, past, passe
 use Rattle.hp_model.specs.NotationExpressions.{expressions_within, expression, conjunction, negation, comparison, sum, product, any_expression}
 use Rattle.hp_model.specs.NotationStatements as S
 use Rattle.hp_model.specs.NotationStatements.{aggregate_word, word_aggregate, aggregate, value_name, binding as binding_phrase, object, pair, pairs, arguments, empty_list}
-use Rattle.hp_model.specs.NotationForms.{Expression, truth, expression_data, Rows, Aggregate, count_of, fold_of, total, least, greatest, next_key, plain, aggregate_data, Assignment, assignment_data, form_data, list_data}
-use Rattle.hp_model.specs.NotationPrint.{Gap, tight, space, Pieces, at_gap, sign, free, name, value_token, value_token_of, enclosed_if, first_is, more_parts, expression_pieces, expression_in, predicate_pieces, rows_pieces, begins_aggregate, aggregate_pieces, binding_pieces, object_pieces, assignment_pieces, assignments_pieces, argument_pieces, arguments_pieces}
+use Rattle.hp_model.specs.NotationForms.{Expression, truth, expression_data, Rows, Aggregate, count_of, fold_of, total, least, greatest, next_key, plain, aggregate_data}
+use Rattle.hp_model.specs.NotationForms.{Assignment, assignment_data, form_data, list_data}
+use Rattle.hp_model.specs.NotationPrint.{Gap, tight, space, Pieces, at_gap, sign, free, name, value_token, value_token_of, enclosed_if, first_is, more_parts, expression_pieces}
+use Rattle.hp_model.specs.NotationPrint.{expression_in, predicate_pieces, rows_pieces, begins_aggregate, aggregate_pieces, binding_pieces, object_pieces, assignment_pieces}
+use Rattle.hp_model.specs.NotationPrint.{assignments_pieces, argument_pieces, arguments_pieces}
 use Rattle.hp_model.specs.NotationLaws.{IsFitExpression, AreFitRows, IsFitAggregate, AreFitAssignments, AreFitExpressions}
 use Rattle.hp_model.proofs.NotationReadings.{bind_ok, stream, size-stream, binding, Reading, name_cases, begins-stream, ListsBy, lists_one, lists_more, no_fault}
 use Rattle.hp_model.proofs.NotationExpressionsRead.{grows_expression, grows_in, any_expression_read, any_sum_read, enclosed_expression_read}
@@ -280,7 +284,8 @@ arguments_read (e ∷ es) w k none o =
       ]) (begins_no_close es) ∙ bind_ok _ _ _ (bind_ok _ _ _ r.reads);
     }
   where
-    begins_no_close : (es : List Expression) → begins (is_mark close_parenthesis) (stream (λ i. o (suc i)) (expression_pieces e tight (more_parts argument_pieces es (sign tight close_parenthesis k)))) ≡ false
+    begins_no_close : (es : List Expression)
+        → begins (is_mark close_parenthesis) (stream (λ i. o (suc i)) (expression_pieces e tight (more_parts argument_pieces es (sign tight close_parenthesis k)))) ≡ false
     begins_no_close [] = let r = any_expression_read e w.0.0 w.0.1 tight (sign tight close_parenthesis k) (λ i. o (suc i)) (omega arith) in not_closed _ _ r.reads
     begins_no_close (x ∷ xs) =
         let r = any_expression_read e w.0.0 w.0.1 tight (more_parts argument_pieces (x ∷ xs) (sign tight close_parenthesis k)) (λ i. o (suc i)) (omega arith) in not_closed _ _ r.reads

@@ -111,7 +111,8 @@ grows_enclosed false f g gap k = g gap k
 -- ---- chains
 
 -- an operand begins a chain
-pub begins_chain : (operand : Phrase Node) (op : Operator) (p levels : ℕ) (f : Gap → Pieces → Pieces) (d : Data) → 0 < levels → ReadsBy operand p f d → ChainsBy operand op (chain operand op) p levels f d
+pub begins_chain : (operand : Phrase Node) (op : Operator) (p levels : ℕ) (f : Gap → Pieces → Pieces) (d : Data) → 0 < levels → ReadsBy operand p f d
+    → ChainsBy operand op (chain operand op) p levels f d
 begins_chain operand op p levels f d some left gap k o h =
     let l = left gap k o h in
     record { node = l.node; next = l.next; turns = most_operators; enough = omega arith; same = l.same; reads = rw l.reads refl }

@@ -17,8 +17,12 @@ use Rattle.hp_model.specs.NotationEvents.{any_event}
 use Rattle.hp_model.specs.NotationScripts as R
 use Rattle.hp_model.specs.NotationScripts.{kind, field, is_name, class, is_mode, mode_at, mode, query, condition, closed, rule, item, is_item, all, script, has_let, is_let}
 use Rattle.hp_model.specs.NotationForms as F
-use Rattle.hp_model.specs.NotationForms.{Rows, rows_data, Query, some_rows, no_rows, named_value, query_data, Field, kind_word, field_data, Class, class_data, Rule, closed_data, rule_data, Item, transaction, clock, item_data, Script, event_data, body_data, form_data, list_data, natural_data, items}
-use Rattle.hp_model.specs.NotationPrint.{Gap, tight, space, line, paragraph, Pieces, sign, free, name, natural, first_is, each_part, more_parts, binding_pieces, query_pieces, event_pieces, body_pieces, braced, is_empty, statements_pieces, field_pieces, fields_pieces, class_pieces, later_class_pieces, classes_pieces, mode_pieces, closed_pieces, condition_pieces, rule_pieces, item_pieces, later_item_pieces, depth_pieces, script_pieces, at_gap}
+use Rattle.hp_model.specs.NotationForms.{Rows, rows_data, Query, some_rows, no_rows, named_value, query_data, Field, kind_word, field_data, Class, class_data, Rule, closed_data}
+use Rattle.hp_model.specs.NotationForms.{rule_data, Item, transaction, clock, item_data, Script, event_data, body_data, form_data, list_data, natural_data, items}
+use Rattle.hp_model.specs.NotationPrint.{Gap, tight, space, line, paragraph, Pieces, sign, free, name, natural, first_is, each_part, more_parts, binding_pieces, query_pieces}
+use Rattle.hp_model.specs.NotationPrint.{event_pieces, body_pieces, braced, is_empty, statements_pieces, field_pieces, fields_pieces, class_pieces, later_class_pieces}
+use Rattle.hp_model.specs.NotationPrint.{classes_pieces, mode_pieces, closed_pieces, condition_pieces, rule_pieces, item_pieces, later_item_pieces, depth_pieces, script_pieces}
+use Rattle.hp_model.specs.NotationPrint.{at_gap}
 use Rattle.hp_model.specs.NotationLaws.{IsFitQuery, IsFitRule, IsFitItem, IsFitDepth, IsFitScript, EachIs}
 use Rattle.hp_model.proofs.NotationReadings.{bind_ok, stream, size-stream, Reading, name_cases, begins-stream, RepeatsBy, repeats_none, repeats_more, ListsBy, lists_one, lists_more}
 use Rattle.hp_model.proofs.NotationEventsRead.{joins_events, grows_event, any_event_read}
@@ -80,7 +84,8 @@ class_read : (c : Class) (gap : Gap) (k : Pieces) (o : ℕ → ℕ) → Reading 
 unfolding class
 class_read c gap k o = go c.fields
   where
-    go : (fs : List Field) → Reading class (list_data (string c.name ∷ list_data (map field_data fs) ∷ [])) (stream o (free gap (codes "class") (name space c.name (sign space open_brace (fields_pieces fs k))))) k
+    go : (fs : List Field) → Reading class (list_data (string c.name ∷ list_data (map field_data fs) ∷ []))
+        (stream o (free gap (codes "class") (name space c.name (sign space open_brace (fields_pieces fs k))))) k
     go [] = record {
       node = T.list (o 0) (T.nodes (T.text (o 1) c.name ∷ T.list (o 2) no_nodes ∷ []));
       next = λ i. o (suc (suc (suc (suc i))));
@@ -112,13 +117,15 @@ later_classes_read : (cs : List Class) (k : Pieces) → first_is (is_word (codes
 later_classes_read [] k none = repeats_none (is_word (codes "class")) class k none
 later_classes_read (c ∷ cs) k none =
     let qs = each_part later_class_pieces cs k in
-    repeats_more (is_word (codes "class")) class (class_data c) (map class_data cs) (class_pieces c (line 0) qs) qs k refl (grows_class c (line 0) qs) (class_read c (line 0) qs) (later_classes_read cs k none)
+    repeats_more (is_word (codes "class")) class (class_data c) (map class_data cs) (class_pieces c (line 0) qs) qs k refl (grows_class c (line 0) qs)
+    (class_read c (line 0) qs) (later_classes_read cs k none)
 
 classes_read : (cs : List Class) (k : Pieces) → first_is (is_word (codes "class")) k ≡ false → RepeatsBy (is_word (codes "class")) class (map class_data cs) (classes_pieces cs k) k
 classes_read [] k none = repeats_none (is_word (codes "class")) class k none
 classes_read (c ∷ cs) k none =
     let qs = each_part later_class_pieces cs k in
-    repeats_more (is_word (codes "class")) class (class_data c) (map class_data cs) (class_pieces c paragraph qs) qs k refl (grows_class c paragraph qs) (class_read c paragraph qs) (later_classes_read cs k none)
+    repeats_more (is_word (codes "class")) class (class_data c) (map class_data cs) (class_pieces c paragraph qs) qs k refl (grows_class c paragraph qs)
+    (class_read c paragraph qs) (later_classes_read cs k none)
 
 -- ---- modes
 
@@ -257,7 +264,8 @@ module _ (lets : Bool) (r : Rule) (w : IsFitRule lets r) (k : Pieces) where
 
   abbrev rule_data_with : List Data → Data
   rule_data_with c =
-      list_data (string r.name ∷ event_data r.event ∷ string (coupling_word r.event_mode) ∷ list_data (map query_data r.condition) ∷ string (coupling_word r.action_mode) ∷ array (body_data r.action) ∷ c)
+      list_data (string r.name ∷ event_data r.event ∷ string (coupling_word r.event_mode) ∷ list_data (map query_data r.condition) ∷ string (coupling_word r.action_mode)
+      ∷ array (body_data r.action) ∷ c)
 
   record RestRead (at : ℕ) (x : Node) (c : List Node) (ds : List Data) (ts : Tokens) : Type 0 where
     node : Node
@@ -289,7 +297,8 @@ rule_read : (lets : Bool) (r : Rule) → IsFitRule lets r → (k : Pieces) (o : 
 unfolding rule after_event_mode after_action_mode
 rule_read lets r w k o = go r.is_closed
   where
-    go : (c : Bool) → Reading (rule lets) (rule_data_with lets r w k (closed_data c)) (stream o (free paragraph (codes "rule") (name space r.name (closed_pieces c (sign space on_mark (event_part lets r w k)))))) k
+    go : (c : Bool) → Reading (rule lets) (rule_data_with lets r w k (closed_data c))
+        (stream o (free paragraph (codes "rule") (name space r.name (closed_pieces c (sign space on_mark (event_part lets r w k)))))) k
     go true =
         let x = name_is space r.name (closed_pieces true (sign space on_mark (event_part lets r w k))) (λ i. o (suc i)) in
         let rest = rest_read lets r w k (o 0) (T.text (o 1) r.name) (T.text (o 2) (codes "closed") ∷ []) (closed_data true) (λ i. o (suc (suc (suc (suc i))))) in
@@ -378,7 +387,8 @@ all_read begins_part part ds ps k by o =
 abbrev IsOther : List ℕ → Pieces → Type 0
 IsOther w k = first_is (is_word w) k ≡ false
 
-items_other : (is : List Item) → IsOther (codes "class") (each_part later_item_pieces is []) × IsOther (codes "rule") (each_part later_item_pieces is []) × IsOther (codes "depth") (each_part later_item_pieces is [])
+items_other : (is : List Item) → IsOther (codes "class") (each_part later_item_pieces is []) × IsOther (codes "rule") (each_part later_item_pieces is [])
+    × IsOther (codes "depth") (each_part later_item_pieces is [])
 items_other [] = (refl, refl, refl)
 items_other (transaction b ∷ is) = (refl, refl, refl)
 items_other (clock t ∷ is) = (refl, refl, refl)

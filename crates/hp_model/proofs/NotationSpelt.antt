@@ -1,5 +1,6 @@
 -- The pieces of a script that can be written are spelt, and the text of spelt pieces is UTF-8.
-use Rattle.std.proofs.Common.{ap, subst, append-nil, map, ◌≡◌, refl, sym, ◌∙◌, ℕ, zero, suc, ◌*◌, ◌<◌, ◌≤◌, pos, negsuc, Bool, true, false, ◌&&◌, ◌||◌, nat_lt, List, [], ◌∷◌, ◌++◌, codes, decimal, replicate, IsUtf8, Option, Some, None, inl, inr, ◌⊎◌, arith}
+use Rattle.std.proofs.Common.{ap, subst, append-nil, map, ◌≡◌, refl, sym, ◌∙◌, ℕ, zero, suc, ◌*◌, ◌<◌, ◌≤◌, pos, negsuc, Bool, true, false, ◌&&◌, ◌||◌, nat_lt, List, [], ◌∷◌, ◌++◌}
+use Rattle.std.proofs.Common.{codes, decimal, replicate, IsUtf8, Option, Some, None, inl, inr, ◌⊎◌, arith}
 use Rattle.std.specs.Prelude.{nat_le, bytes_eq}
 use Rattle.std.specs.List.{list_all}
 use Rattle.std.specs.Str.{is_utf8, IsAscii}
@@ -13,9 +14,20 @@ use Rattle.hp_model.specs.Rules.{Coupling, immediate, deferred, separate, depend
 use Rattle.hp_model.specs.Report.{quoted as quoted_text}
 use Rattle.hp_model.specs.Parts.{is_name, is_name_byte}
 use Rattle.hp_model.specs.NotationTokens.{Mark, on_mark, else_mark, otherwise_mark, close_parenthesis, Token, mark, word, quoted, number, string, spelling, reserved_word, tokens}
-use Rattle.hp_model.specs.NotationForms.{Expression, integer, truth, text, operation, inverted, negated, field_of, key_of, value, now, image_field, key_in, time_of, argument, occurrence_count, Event, on_change, on_signal, on_commit, at_moment, every_moment, or_event, then_event, closure_event, Rows, Fold, total, least, greatest, fold_word, Aggregate, count_of, fold_of, next_key, plain, Query, some_rows, no_rows, named_value, Assignment, Statement, set_object, delete, signal, emit, when, each, for_answer, with_object, with_value, subtransaction, abort, veto, veto_with, on_rule, Body, empty, ◌then◌, Field, kind_word, Class, Rule, Item, transaction, clock, Script}
-use Rattle.hp_model.specs.NotationPrint.{Gap, tight, space, line, paragraph, Pieces, sign, name_token, token_of_name, value_token, value_token_of, enclosed_if, first_is, each_part, more_parts, part_pieces, expression_level, left_level, right_level, negated_level, expression_pieces, is_or, is_then, event_pieces, predicate_pieces, rows_pieces, begins_aggregate, aggregate_pieces, binding_pieces, query_pieces, object_pieces, assignment_pieces, assignments_pieces, argument_pieces, arguments_pieces, is_empty, braced, body_after, is_let, statement_pieces, statements_pieces, body_pieces, field_pieces, fields_pieces, class_pieces, later_class_pieces, classes_pieces, mode_pieces, closed_pieces, condition_pieces, rule_pieces, item_pieces, later_item_pieces, depth_pieces, script_pieces, token_text, gap_text, gap_after, text_after, text_of}
-use Rattle.hp_model.specs.NotationLaws.{Fits, IsSpelt, AreSpelt, IsWritableExpression, IsWritableEvent, IsFitExpression, AreFitRows, IsFitAggregate, IsFitQuery, AreFitAssignments, AreFitExpressions, IsFitStatement, IsFitBody, EachIs, IsFitField, IsFitClass, IsFitRule, IsFitItem, IsFitDepth, IsFitScript, TokensAreRead, all_tokens, token_of}
+use Rattle.hp_model.specs.NotationForms.{Expression, integer, truth, text, operation, inverted, negated, field_of, key_of, value, now, image_field, key_in, time_of, argument}
+use Rattle.hp_model.specs.NotationForms.{occurrence_count, Event, on_change, on_signal, on_commit, at_moment, every_moment, or_event, then_event, closure_event, Rows, Fold, total}
+use Rattle.hp_model.specs.NotationForms.{least, greatest, fold_word, Aggregate, count_of, fold_of, next_key, plain, Query, some_rows, no_rows, named_value, Assignment, Statement}
+use Rattle.hp_model.specs.NotationForms.{set_object, delete, signal, emit, when, each, for_answer, with_object, with_value, subtransaction, abort, veto, veto_with, on_rule, Body}
+use Rattle.hp_model.specs.NotationForms.{empty, ◌then◌, Field, kind_word, Class, Rule, Item, transaction, clock, Script}
+use Rattle.hp_model.specs.NotationPrint.{Gap, tight, space, line, paragraph, Pieces, sign, name_token, token_of_name, value_token, value_token_of, enclosed_if, first_is, each_part}
+use Rattle.hp_model.specs.NotationPrint.{more_parts, part_pieces, expression_level, left_level, right_level, negated_level, expression_pieces, is_or, is_then, event_pieces}
+use Rattle.hp_model.specs.NotationPrint.{predicate_pieces, rows_pieces, begins_aggregate, aggregate_pieces, binding_pieces, query_pieces, object_pieces, assignment_pieces}
+use Rattle.hp_model.specs.NotationPrint.{assignments_pieces, argument_pieces, arguments_pieces, is_empty, braced, body_after, is_let, statement_pieces, statements_pieces}
+use Rattle.hp_model.specs.NotationPrint.{body_pieces, field_pieces, fields_pieces, class_pieces, later_class_pieces, classes_pieces, mode_pieces, closed_pieces, condition_pieces}
+use Rattle.hp_model.specs.NotationPrint.{rule_pieces, item_pieces, later_item_pieces, depth_pieces, script_pieces, token_text, gap_text, gap_after, text_after, text_of}
+use Rattle.hp_model.specs.NotationLaws.{Fits, IsSpelt, AreSpelt, IsWritableExpression, IsWritableEvent, IsFitExpression, AreFitRows, IsFitAggregate, IsFitQuery, AreFitAssignments}
+use Rattle.hp_model.specs.NotationLaws.{AreFitExpressions, IsFitStatement, IsFitBody, EachIs, IsFitField, IsFitClass, IsFitRule, IsFitItem, IsFitDepth, IsFitScript, TokensAreRead}
+use Rattle.hp_model.specs.NotationLaws.{all_tokens, token_of}
 use Rattle.hp_model.proofs.NotationLexing.{no_tail, line_feed_tail, tokens_read}
 
 -- ---- the text of spelt pieces is UTF-8
@@ -329,8 +341,11 @@ mutual
   spelt_statement (signal x es) w depth k s = (tt, (spelt_name x w.0, spelt_arguments es w.1 k s))
   spelt_statement (emit e) w depth k s = (tt, spelt_expression e w.0 space k s)
   spelt_statement (when e b c) w depth k s =
-      let last = λ (q : Pieces) (t : AreSpelt q). spelt_braced (is_empty c) depth (statements_pieces c (suc depth)) (spelt_statements c w.2 (suc depth)) q t in
-      (tt, spelt_expression e w.0.0 space _ (spelt_braced (is_empty b) depth (statements_pieces b (suc depth)) (spelt_statements b w.1 (suc depth)) _ (spelt_after else_mark (is_empty c) (body_pieces c depth) last k s)))
+      let last = λ (q : Pieces) (t : AreSpelt q). spelt_braced (is_empty c) depth (statements_pieces c (suc depth)) (spelt_statements c w.2 (suc depth)) q t in (
+        tt,
+        spelt_expression e w.0.0 space _ (spelt_braced (is_empty b) depth (statements_pieces b (suc depth)) (spelt_statements b w.1 (suc depth)) _
+            (spelt_after else_mark (is_empty c) (body_pieces c depth) last k s)),
+      )
   spelt_statement (each r b) w depth k s = (tt, spelt_rows r w.0 _ (spelt_braced (is_empty b) depth (statements_pieces b (suc depth)) (spelt_statements b w.1 (suc depth)) k s))
   spelt_statement (for_answer x b) w depth k s = (tt, (spelt_name x w.0, spelt_braced (is_empty b) depth (statements_pieces b (suc depth)) (spelt_statements b w.1 (suc depth)) k s))
   spelt_statement (with_object x c e b) w depth k s =

@@ -2,15 +2,21 @@
 use Rattle.std.proofs.Common.{◌≡◌, refl, ap, ◌∙◌, ℕ, zero, suc, ◌<◌, ◌≤◌, Bool, true, false, List, [], ◌∷◌, length, map, codes, Result, Ok, arith}
 use Rattle.serde_json.specs.Data.{string, array, item}
 use Rattle.hp_model.specs.Values.{◌>>=◌}
-use Rattle.hp_model.specs.NotationTokens.{Mark, where_mark, as_mark, set_mark, else_mark, otherwise_mark, not_mark, true_mark, false_mark, new_mark, old_mark, event_mark, close_brace, open_parenthesis, close_parenthesis, comma, semicolon, minus_sign, Token, mark, word, quoted, number, string as string_token, Tokens, token, ending, unreadable, place, size}
+use Rattle.hp_model.specs.NotationTokens.{Mark, where_mark, as_mark, set_mark, else_mark, otherwise_mark, not_mark, true_mark, false_mark, new_mark, old_mark, event_mark}
+use Rattle.hp_model.specs.NotationTokens.{close_brace, open_parenthesis, close_parenthesis, comma, semicolon, minus_sign, Token, mark, word, quoted, number, string as string_token}
+use Rattle.hp_model.specs.NotationTokens.{Tokens, token, ending, unreadable, place, size}
 use Rattle.hp_model.specs.NotationTree as T
 use Rattle.hp_model.specs.NotationTree.{Node, Nodes, no_nodes, node, data_of, items_of, form, Phrase}
 use Rattle.hp_model.specs.NotationPhrases.{is_mark, begins, past}
 use Rattle.hp_model.specs.NotationExpressions.{expressions_within, expression, conjunction, negation, comparison, sum, product, any_expression}
 use Rattle.hp_model.specs.NotationStatements as S
 use Rattle.hp_model.specs.NotationStatements.{Deeper, begins_message, past_semicolon, statements, statement, body, bodies_within, any_body}
-use Rattle.hp_model.specs.NotationForms.{Expression, truth, expression_data, Rows, Aggregate, count_of, fold_of, next_key, plain, Assignment, create, update, install, enable, disable, remove, fire, Statement, set_object, delete, signal, emit, when, each, for_answer, with_object, with_value, subtransaction, abort, veto, veto_with, on_rule, Body, empty, ◌then◌, assignment_data, statement_data, body_data, form_data, list_data}
-use Rattle.hp_model.specs.NotationPrint.{Gap, tight, space, line, Pieces, sign, free, name, enclosed_if, first_is, expression_pieces, predicate_pieces, rows_pieces, begins_aggregate, aggregate_pieces, binding_pieces, object_pieces, assignment_pieces, more_parts, assignments_pieces, argument_pieces, arguments_pieces, is_empty, braced, body_after, is_let, statement_pieces, statements_pieces, body_pieces}
+use Rattle.hp_model.specs.NotationForms.{Expression, truth, expression_data, Rows, Aggregate, count_of, fold_of, next_key, plain, Assignment, create, update, install, enable}
+use Rattle.hp_model.specs.NotationForms.{disable, remove, fire, Statement, set_object, delete, signal, emit, when, each, for_answer, with_object, with_value, subtransaction, abort}
+use Rattle.hp_model.specs.NotationForms.{veto, veto_with, on_rule, Body, empty, ◌then◌, assignment_data, statement_data, body_data, form_data, list_data}
+use Rattle.hp_model.specs.NotationPrint.{Gap, tight, space, line, Pieces, sign, free, name, enclosed_if, first_is, expression_pieces, predicate_pieces, rows_pieces}
+use Rattle.hp_model.specs.NotationPrint.{begins_aggregate, aggregate_pieces, binding_pieces, object_pieces, assignment_pieces, more_parts, assignments_pieces, argument_pieces}
+use Rattle.hp_model.specs.NotationPrint.{arguments_pieces, is_empty, braced, body_after, is_let, statement_pieces, statements_pieces, body_pieces}
 use Rattle.hp_model.specs.NotationLaws.{IsFitExpression, AreFitAssignments, IsFitStatement, IsFitBody, statement_levels, body_levels}
 use Rattle.hp_model.proofs.NotationReadings.{bind_ok, stream, size-stream, token_binding, Reading, begins-stream, no_fault, grows_enclosed}
 use Rattle.hp_model.proofs.NotationExpressionsRead.{grows_expression, grows_in, any_expression_read, enclosed_expression_read}
@@ -222,7 +228,8 @@ body_by (◌then◌ s b) by (suc l) h depth k o =
 -- ---- bodies that are left out
 
 left_out : (m : Mark) (one : Phrase Node) (k : Pieces) → first_is (is_mark m) k ≡ false → (o : ℕ → ℕ)
-    → (elim (begins (is_mark m) (stream o k)) as (λ _. Result (Node × Tokens) ℕ) [ true ↦ one (stream o k) | false ↦ S.empty_list (stream o k) ]) ≡ Ok (T.list (place (stream o k)) no_nodes, stream o k)
+    → (elim (begins (is_mark m) (stream o k)) as (λ _. Result (Node × Tokens) ℕ) [ true ↦ one (stream o k) | false ↦ S.empty_list (stream o k) ]) ≡ Ok
+    (T.list (place (stream o k)) no_nodes, stream o k)
 left_out m one k none o =
     ap (λ b. elim b as (λ _. Result (Node × Tokens) ℕ) [ true ↦ one (stream o k) | false ↦ S.empty_list (stream o k) ]) (begins-stream (is_mark m) k o ∙ none)
 

@@ -13,10 +13,22 @@ use Rattle.hp_model.specs.Decode.{Root, root_of}
 use Rattle.hp_model.specs.NotationTree.{root_data}
 use Rattle.hp_model.specs.NotationScripts.{has_let}
 use Rattle.hp_model.specs.NotationForms as F
-use Rattle.hp_model.specs.NotationForms.{Expression, integer, truth, text, Operator, either, both, equal, unequal, less, at_most, greater, at_least, plus, minus, times, quotient, remainder, operation, inverted, negated, field_of, key_of, value, now, Image, image_field, new_image, old_image, key_in, time_of, argument, occurrence_count, expression_data, Change, Event, on_change, creation, change, deletion, on_signal, on_commit, at_moment, every_moment, or_event, then_event, closure_event, event_data, Rows, Fold, total, least, greatest, Aggregate, count_of, fold_of, next_key, plain, aggregate_data, Query, some_rows, no_rows, named_value, query_data, Assignment, assignment_data, Statement, Setting, create, update, set_object, delete, signal, emit, when, each, for_answer, with_object, with_value, subtransaction, abort, veto, veto_with, RuleOperation, install, enable, disable, remove, fire, on_rule, Body, empty, ◌then◌, statement_data, body_data, Field, kind_word, field_data, Class, class_data, Rule, closed_data, rule_data, Item, transaction, clock, item_data, Script, depth_data, script_data, natural_data, items, list_data}
+use Rattle.hp_model.specs.NotationForms.{Expression, integer, truth, text, Operator, either, both, equal, unequal, less, at_most, greater, at_least, plus, minus, times, quotient}
+use Rattle.hp_model.specs.NotationForms.{remainder, operation, inverted, negated, field_of, key_of, value, now, Image, image_field, new_image, old_image, key_in, time_of, argument}
+use Rattle.hp_model.specs.NotationForms.{occurrence_count, expression_data, Change, Event, on_change, creation, change, deletion, on_signal, on_commit, at_moment, every_moment}
+use Rattle.hp_model.specs.NotationForms.{or_event, then_event, closure_event, event_data, Rows, Fold, total, least, greatest, Aggregate, count_of, fold_of, next_key, plain}
+use Rattle.hp_model.specs.NotationForms.{aggregate_data, Query, some_rows, no_rows, named_value, query_data, Assignment, assignment_data, Statement, Setting, create, update}
+use Rattle.hp_model.specs.NotationForms.{set_object, delete, signal, emit, when, each, for_answer, with_object, with_value, subtransaction, abort, veto, veto_with, RuleOperation}
+use Rattle.hp_model.specs.NotationForms.{install, enable, disable, remove, fire, on_rule, Body, empty, ◌then◌, statement_data, body_data, Field, kind_word, field_data, Class}
+use Rattle.hp_model.specs.NotationForms.{class_data, Rule, closed_data, rule_data, Item, transaction, clock, item_data, Script, depth_data, script_data, natural_data, items}
+use Rattle.hp_model.specs.NotationForms.{list_data}
 use Rattle.hp_model.specs.NotationPrint.{print_script, print_item}
-use Rattle.hp_model.specs.NotationValues.{fitting, natural_of, of_one, of_two, of_three, each_of, list_form, expression_of, any_expression, event_of, rows_of, aggregate_of_form, aggregate_of, query_of, assignment_of, statement_of_form, body_in, body_of, any_body, field_form, class_form, depth_form, script_with, script_of_version, mode_of, rule_form, item_form, script_form}
-use Rattle.hp_model.specs.NotationLaws.{Fits, IsWritableExpression, expression_levels, IsWritableEvent, event_levels, IsFitExpression, AreFitRows, IsFitAggregate, IsFitQuery, AreFitAssignments, AreFitExpressions, IsFitStatement, IsFitBody, statement_levels, body_levels, EachIs, IsFitField, IsFitClass, IsFitRule, IsFitItem, IsFitDepth, IsFitScript, ValuesAreRead, LinesAreRead}
+use Rattle.hp_model.specs.NotationValues.{fitting, natural_of, of_one, of_two, of_three, each_of, list_form, expression_of, any_expression, event_of, rows_of, aggregate_of_form}
+use Rattle.hp_model.specs.NotationValues.{aggregate_of, query_of, assignment_of, statement_of_form, body_in, body_of, any_body, field_form, class_form, depth_form, script_with}
+use Rattle.hp_model.specs.NotationValues.{script_of_version, mode_of, rule_form, item_form, script_form}
+use Rattle.hp_model.specs.NotationLaws.{Fits, IsWritableExpression, expression_levels, IsWritableEvent, event_levels, IsFitExpression, AreFitRows, IsFitAggregate, IsFitQuery}
+use Rattle.hp_model.specs.NotationLaws.{AreFitAssignments, AreFitExpressions, IsFitStatement, IsFitBody, statement_levels, body_levels, EachIs, IsFitField, IsFitClass, IsFitRule}
+use Rattle.hp_model.specs.NotationLaws.{IsFitItem, IsFitDepth, IsFitScript, ValuesAreRead, LinesAreRead}
 use Rattle.hp_model.proofs.NotationExpressionsRead.{levels_positive}
 use Rattle.hp_model.proofs.NotationEventsRead.{event_levels_positive}
 use Rattle.hp_model.proofs.NotationStatementsRead.{body_levels_positive}
@@ -127,8 +139,10 @@ no_aggregate e = refl
 
 aggregate_valued : (a : Aggregate) → IsFitAggregate a → aggregate_of (aggregate_data a) ≡ Some a
 aggregate_valued (count_of r) w = ap (λ o. option_or (of_one count_of o) (of_one plain (any_expression (aggregate_data (count_of r))))) (rows_valued r w)
-aggregate_valued (fold_of total r e) w = ap (λ o. option_or o (of_one plain (any_expression (aggregate_data (fold_of total r e))))) (two_valued (fold_of total) _ _ r e (rows_valued r w.0) (any_valued e w.1))
-aggregate_valued (fold_of least r e) w = ap (λ o. option_or o (of_one plain (any_expression (aggregate_data (fold_of least r e))))) (two_valued (fold_of least) _ _ r e (rows_valued r w.0) (any_valued e w.1))
+aggregate_valued (fold_of total r e) w = ap (λ o. option_or o (of_one plain (any_expression (aggregate_data (fold_of total r e)))))
+    (two_valued (fold_of total) _ _ r e (rows_valued r w.0) (any_valued e w.1))
+aggregate_valued (fold_of least r e) w = ap (λ o. option_or o (of_one plain (any_expression (aggregate_data (fold_of least r e)))))
+    (two_valued (fold_of least) _ _ r e (rows_valued r w.0) (any_valued e w.1))
 aggregate_valued (fold_of greatest r e) w =
     ap (λ o. option_or o (of_one plain (any_expression (aggregate_data (fold_of greatest r e))))) (two_valued (fold_of greatest) _ _ r e (rows_valued r w.0) (any_valued e w.1))
 aggregate_valued (next_key c) w = ap (λ o. option_or (of_one next_key o) (of_one plain (any_expression (aggregate_data (next_key c))))) (name_valued c w)
@@ -239,12 +253,15 @@ rule_valued : (lets : Bool) (r : Rule) → IsFitRule lets r → rule_form lets (
 rule_valued lets r w = go r.is_closed
   where
     go : (c : Bool)
-        → rule_form lets (list_data (string r.name ∷ F.event_data r.event ∷ string (coupling_word r.event_mode) ∷ list_data (map query_data r.condition) ∷ string (coupling_word r.action_mode) ∷ array (body_data r.action) ∷ closed_data c))
+        → rule_form lets (list_data (string r.name ∷ F.event_data r.event ∷ string (coupling_word r.event_mode) ∷ list_data (map query_data r.condition)
+        ∷ string (coupling_word r.action_mode) ∷ array (body_data r.action) ∷ closed_data c))
         ≡ Some (record { name = r.name; is_closed = c; event = r.event; event_mode = r.event_mode; condition = r.condition; action_mode = r.action_mode; action = r.action })
     go true = rw (name_valued r.name w.name, event_valued r.event w.event 64 w.event_levels, mode_valued r.event_mode)
-        (three_valued _ _ _ _ r.condition r.action_mode r.action (list_valued (query_of lets) (map query_data r.condition) r.condition (each_valued (query_of lets) query_data (IsFitQuery lets) (query_valued lets) r.condition w.condition)) (mode_valued r.action_mode) (any_body_valued r.action w.action w.action_levels))
+        (three_valued _ _ _ _ r.condition r.action_mode r.action (list_valued (query_of lets) (map query_data r.condition) r.condition
+        (each_valued (query_of lets) query_data (IsFitQuery lets) (query_valued lets) r.condition w.condition)) (mode_valued r.action_mode) (any_body_valued r.action w.action w.action_levels))
     go false = rw (name_valued r.name w.name, event_valued r.event w.event 64 w.event_levels, mode_valued r.event_mode)
-        (three_valued _ _ _ _ r.condition r.action_mode r.action (list_valued (query_of lets) (map query_data r.condition) r.condition (each_valued (query_of lets) query_data (IsFitQuery lets) (query_valued lets) r.condition w.condition)) (mode_valued r.action_mode) (any_body_valued r.action w.action w.action_levels))
+        (three_valued _ _ _ _ r.condition r.action_mode r.action (list_valued (query_of lets) (map query_data r.condition) r.condition
+        (each_valued (query_of lets) query_data (IsFitQuery lets) (query_valued lets) r.condition w.condition)) (mode_valued r.action_mode) (any_body_valued r.action w.action w.action_levels))
 
 item_valued : (i : Item) → IsFitItem i → item_form (item_data i) ≡ Some i
 unfolding item_form
@@ -270,7 +287,8 @@ script_valued s w =
     let root : Root = record { version = natural_data s.version; depth = depth_data s.depth; classes = classes; rules = rules; items = items } in
     ap (option_and_then (λ (r : Root). option_and_then (script_of_version r) (natural_of r.version))) (root_valued (natural_data s.version) (depth_data s.depth) classes rules items)
     ∙ ap (option_and_then (script_of_version root)) (natural_valued s.version w.version)
-    ∙ ap (option_and_then (λ (depth : Option ℕ). of_three (script_with s.version depth) (list_form class_form classes) (list_form (rule_form lets) rules) (list_form item_form items))) (depth_valued s.depth w.depth)
+    ∙ ap (option_and_then (λ (depth : Option ℕ). of_three (script_with s.version depth) (list_form class_form classes) (list_form (rule_form lets) rules) (list_form item_form items)))
+    (depth_valued s.depth w.depth)
     ∙ three_valued (script_with s.version s.depth) _ _ _ s.classes s.rules s.items
     (list_valued class_form (map class_data s.classes) s.classes (each_valued class_form class_data IsFitClass class_valued s.classes w.classes))
     (list_valued (rule_form lets) (map rule_data s.rules) s.rules (each_valued (rule_form lets) rule_data (IsFitRule lets) (rule_valued lets) s.rules w.rules))

@@ -115,7 +115,8 @@ names = refl
 -- escapes, a surrogate pair, and characters of several bytes
 pub texts : Means
     (codes "version 1\ntransaction {\n  emit \"a\\\"\\\\\\/\\b\\f\\n\\r\\t\\u0041\\ud83d\\ude00" ++ ((195 ∷ []) ++ ((169 ∷ []) ++ (codes "\"\n}\n"))))
-    (codes "{\"version\":1,\"classes\":[],\"rules\":[],\"items\":[[\"tx\",[[\"emit\",\"a\\\"\\\\/\\b\\f\\n\\r\\tA" ++ ((240 ∷ []) ++ ((159 ∷ []) ++ ((152 ∷ []) ++ ((128 ∷ []) ++ ((195 ∷ []) ++ ((169 ∷ []) ++ (codes "\"]]]]}"))))))))
+    (codes "{\"version\":1,\"classes\":[],\"rules\":[],\"items\":[[\"tx\",[[\"emit\",\"a\\\"\\\\/\\b\\f\\n\\r\\tA"
+    ++ ((240 ∷ []) ++ ((159 ∷ []) ++ ((152 ∷ []) ++ ((128 ∷ []) ++ ((195 ∷ []) ++ ((169 ∷ []) ++ (codes "\"]]]]}"))))))))
 unfolding text_on_literals
 texts = refl
 
@@ -180,7 +181,8 @@ unfolding text_on_literals
 line_ends = refl
 
 -- a column is a character, and not a byte
-pub after_wide_characters : IsFaultyAt (codes "version 1\ntransaction {\n  emit \"" ++ ((195 ∷ []) ++ ((169 ∷ []) ++ ((226 ∷ []) ++ ((130 ∷ []) ++ ((172 ∷ []) ++ ((240 ∷ []) ++ ((159 ∷ []) ++ ((152 ∷ []) ++ ((128 ∷ []) ++ (codes "\" 1\n}"))))))))))) 3 14
+pub after_wide_characters : IsFaultyAt (codes "version 1\ntransaction {\n  emit \""
+    ++ ((195 ∷ []) ++ ((169 ∷ []) ++ ((226 ∷ []) ++ ((130 ∷ []) ++ ((172 ∷ []) ++ ((240 ∷ []) ++ ((159 ∷ []) ++ ((152 ∷ []) ++ ((128 ∷ []) ++ (codes "\" 1\n}"))))))))))) 3 14
 unfolding text_on_literals
 after_wide_characters = refl
 
@@ -235,17 +237,20 @@ unfolding text_on_literals
 not_utf8_later = refl
 
 -- a chain has at most 64 operators
-pub too_many_operators : IsFaultyAt (codes "version 1\ntransaction {\n  emit 1+1+1+1+1+1+1+1+1+1+1+1+1+1+1+1+1+1+1+1+1+1+1+1+1+1+1+1+1+1+1+1+1+1+1+1+1+1+1+1+1+1+1+1+1+1+1+1+1+1+1+1+1+1+1+1+1+1+1+1+1+1+1+1+1+1\n}") 3 137
+pub too_many_operators : IsFaultyAt
+    (codes "version 1\ntransaction {\n  emit 1+1+1+1+1+1+1+1+1+1+1+1+1+1+1+1+1+1+1+1+1+1+1+1+1+1+1+1+1+1+1+1+1+1+1+1+1+1+1+1+1+1+1+1+1+1+1+1+1+1+1+1+1+1+1+1+1+1+1+1+1+1+1+1+1+1\n}") 3 137
 unfolding text_on_literals
 too_many_operators = refl
 
 -- expressions nest at most 64 deep, and this is the 65th
-pub parentheses_too_deep : IsFaultyAt (codes "version 1\ntransaction {\n  emit ((((((((((((((((((((((((((((((((((((((((((((((((((((((((((((((((1))))))))))))))))))))))))))))))))))))))))))))))))))))))))))))))))\n}") 3 72
+pub parentheses_too_deep : IsFaultyAt
+    (codes "version 1\ntransaction {\n  emit ((((((((((((((((((((((((((((((((((((((((((((((((((((((((((((((((1))))))))))))))))))))))))))))))))))))))))))))))))))))))))))))))))\n}") 3 72
 unfolding text_on_literals
 parentheses_too_deep = refl
 
 -- the first token of a body that nests too deep is its brace
-pub bodies_too_deep : IsFaultyAt (codes "version 1\ntransaction { sub { sub { sub { sub { sub { sub { sub { sub { sub { sub { sub { sub { sub { sub { sub { sub { sub { sub { sub { sub { sub { sub { sub { sub { sub { sub { sub { sub { sub { sub { sub { sub { sub { sub { sub { sub { sub { sub { sub { sub { sub { sub { sub { sub { sub { sub { sub { sub { sub { sub { sub { sub { sub { sub { sub { sub { sub { sub { sub { sub { sub { sub { sub { sub { } } } } } } } } } } } } } } } } } } } } } } } } } } } } } } } } } } } } } } } } } } } } } } } } } } } } } } } } } } } } } } } } }") 2 397
+pub bodies_too_deep : IsFaultyAt
+    (codes "version 1\ntransaction { sub { sub { sub { sub { sub { sub { sub { sub { sub { sub { sub { sub { sub { sub { sub { sub { sub { sub { sub { sub { sub { sub { sub { sub { sub { sub { sub { sub { sub { sub { sub { sub { sub { sub { sub { sub { sub { sub { sub { sub { sub { sub { sub { sub { sub { sub { sub { sub { sub { sub { sub { sub { sub { sub { sub { sub { sub { sub { sub { sub { sub { sub { sub { sub { } } } } } } } } } } } } } } } } } } } } } } } } } } } } } } } } } } } } } } } } } } } } } } } } } } } } } } } } } } } } } } } } }") 2 397
 unfolding text_on_literals
 bodies_too_deep = refl
 
@@ -277,7 +282,8 @@ unfolding text_on_literals value_on_literals
 words_before_names_printed = refl
 
 -- an item on one line
-pub item_printed : option_and_then print_item_value (json_of (codes "[\"tx\",[[\"if\",true,[[\"emit\",1]],[[\"if\",false,[],[[\"abort\"]]]]]]]")) ≡ Some (codes "transaction { if true { emit 1 } else { if false {} else { abort } } }")
+pub item_printed : option_and_then print_item_value (json_of (codes "[\"tx\",[[\"if\",true,[[\"emit\",1]],[[\"if\",false,[],[[\"abort\"]]]]]]]")) ≡ Some
+    (codes "transaction { if true { emit 1 } else { if false {} else { abort } } }")
 unfolding text_on_literals value_on_literals
 item_printed = refl
 

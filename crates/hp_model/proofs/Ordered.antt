@@ -56,7 +56,8 @@ module _ {K : Type 0} (cmp : K → K → Ordering) (total : IsTotalOrder cmp) wh
   above_insert x k v [] h a = (h, tt)
   above_insert x k v (e ∷ es) h a = above_choice (cmp k e.0) x k v e es (insert_entry cmp es k v) h a (above_insert x k v es h a.1)
 
-  sorted_choice : {X : Type 0} (r : Ordering) (k : K) (v : X) (e : K × X) (es : List (K × X)) → cmp k e.0 ≡ r → IsStrictlySortedBy cmp (names (e ∷ es)) → IsStrictlySortedBy cmp (names (insert_entry cmp es k v))
+  sorted_choice : {X : Type 0} (r : Ordering) (k : K) (v : X) (e : K × X) (es : List (K × X)) → cmp k e.0 ≡ r → IsStrictlySortedBy cmp (names (e ∷ es))
+      → IsStrictlySortedBy cmp (names (insert_entry cmp es k v))
       → IsStrictlySortedBy cmp (names (match_ordering r ((k, v) ∷ e ∷ es) ((e.0, v) ∷ es) (e ∷ insert_entry cmp es k v)))
   unfolding IsStrictlySortedBy
   sorted_choice Less k v e es h s rest = ((h, above_trans k e.0 (names es) h s.0), s)
@@ -76,7 +77,8 @@ module _ {K : Type 0} (cmp : K → K → Ordering) (total : IsTotalOrder cmp) wh
   above_remove x test [] a = tt
   above_remove x test (e ∷ es) a = above_rest (test e.0) x e es (remove_entry test es) a (above_remove x test es a.1)
 
-  sorted_rest : {X : Type 0} (b : Bool) (e : K × X) (es more : List (K × X)) → IsStrictlySortedBy cmp (names (e ∷ es)) → Above e.0 (names more) → IsStrictlySortedBy cmp (names more) → IsStrictlySortedBy cmp (names (cond b es (e ∷ more)))
+  sorted_rest : {X : Type 0} (b : Bool) (e : K × X) (es more : List (K × X)) → IsStrictlySortedBy cmp (names (e ∷ es)) → Above e.0 (names more)
+      → IsStrictlySortedBy cmp (names more) → IsStrictlySortedBy cmp (names (cond b es (e ∷ more)))
   unfolding IsStrictlySortedBy
   sorted_rest true e es more s a rest = s.1
   sorted_rest false e es more s a rest = (a, rest)
@@ -93,7 +95,8 @@ length-map f [] = refl
 length-map f (x ∷ xs) = ap suc (length-map f xs)
 
 -- an operation keeps the objects in order
-pub apply_ordered : (op : Operation) (objects : Objects) → IsStrictlySortedBy compare_names (map (λ (o : ObjectName × Row). o.0) objects) → IsStrictlySortedBy compare_names (map (λ (o : ObjectName × Row). o.0) (apply op objects))
+pub apply_ordered : (op : Operation) (objects : Objects) → IsStrictlySortedBy compare_names (map (λ (o : ObjectName × Row). o.0) objects)
+    → IsStrictlySortedBy compare_names (map (λ (o : ObjectName × Row). o.0) (apply op objects))
 apply_ordered (create_op class key new) objects s = sorted_insert compare_names names_total objects (object_name class key) new s
 apply_ordered (update_op class key new) objects s = sorted_insert compare_names names_total objects (object_name class key) new s
 apply_ordered (delete_op class key) objects s = sorted_remove compare_names names_total (is_at (compare_names (object_name class key))) objects s

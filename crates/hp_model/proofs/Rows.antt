@@ -4,7 +4,8 @@ use Rattle.std.specs.Fmt.{digits}
 use Rattle.hp_model.specs.Values.{boolean}
 use Rattle.hp_model.specs.Expressions.{constant, arithmetic, plus, minus, times, compared, equal, greater, field_of, new_field, old_field, argument, time_of, occurrence_count}
 use Rattle.hp_model.specs.Events.{Event, pattern_event, on_update, on_signal, on_commit, every_moment, seq_event, closure_event}
-use Rattle.hp_model.specs.Rules.{query_entry, immediate, deferred, separate, dependent, exclusive, create, emit, signal, when, with_object, subtransaction, abort, veto, on_rule, enable, disable, fire, empty, ◌then◌, Rule}
+use Rattle.hp_model.specs.Rules.{query_entry, immediate, deferred, separate, dependent, exclusive, create, emit, signal, when, with_object, subtransaction, abort, veto, on_rule}
+use Rattle.hp_model.specs.Rules.{enable, disable, fire, empty, ◌then◌, Rule}
 use Rattle.hp_model.specs.Cascade.{transaction, moment, Script, evaluate}
 use Rattle.hp_model.specs.Report.{report_text}
 use Rattle.hp_model.proofs.Scripts.{lines, number, acct_class, mark_class, acct, set_acct, rule, on, on_go, go, say, plus_one, installs, script}
@@ -134,7 +135,8 @@ sequence_rule =
 abbrev pub sequence_script : Script
 sequence_script =
     script [] 8 (sequence_rule ∷ [])
-    (transaction 0 (installs 0 then signal (codes "a") (number 1 ∷ []) then signal (codes "a") (number 2 ∷ []) then signal (codes "b") (number 3 ∷ []) then signal (codes "b") (number 4 ∷ []) then empty) ∷ [])
+    (transaction 0 (installs 0 then signal (codes "a") (number 1 ∷ []) then signal (codes "a") (number 2 ∷ []) then signal (codes "b") (number 3 ∷ [])
+    then signal (codes "b") (number 4 ∷ []) then empty) ∷ [])
 
 pub sequence_oldest_first : text_of sequence_script
     ≡ lines (codes "unit 1 committed" ∷ codes "emit 1" ∷ codes "emit 3" ∷ codes "emit 2" ∷ codes "emit 4" ∷ codes "final" ∷ codes "rule q enabled" ∷ codes "end" ∷ [])
@@ -172,7 +174,8 @@ separate_script =
     (transaction 0 (installs 0 then installs 1 then empty) ∷ transaction 0 (subtransaction (go then empty) empty then abort then empty) ∷ [])
 
 pub separate_and_dependent : text_of separate_script
-    ≡ lines (codes "unit 1 committed" ∷ codes "unit 2 aborted A8" ∷ codes "separate ind committed" ∷ codes "emit 1" ∷ codes "final" ∷ codes "rule ind enabled" ∷ codes "rule dep enabled" ∷ codes "end" ∷ [])
+    ≡ lines (codes "unit 1 committed" ∷ codes "unit 2 aborted A8" ∷ codes "separate ind committed" ∷ codes "emit 1" ∷ codes "final" ∷ codes "rule ind enabled"
+    ∷ codes "rule dep enabled" ∷ codes "end" ∷ [])
 unfolding digits
 separate_and_dependent = refl
 
@@ -311,7 +314,8 @@ rounds_script =
     (transaction 0 (installs 0 then installs 1 then installs 2 then go then say 0 then empty) ∷ [])
 
 pub rounds : text_of rounds_script
-    ≡ lines (codes "unit 1 committed" ∷ codes "emit 0" ∷ codes "emit 1" ∷ codes "emit 3" ∷ codes "emit 2" ∷ codes "final" ∷ codes "rule d1 enabled" ∷ codes "rule d2 enabled" ∷ codes "rule d3 enabled" ∷ codes "end" ∷ [])
+    ≡ lines (codes "unit 1 committed" ∷ codes "emit 0" ∷ codes "emit 1" ∷ codes "emit 3" ∷ codes "emit 2" ∷ codes "final" ∷ codes "rule d1 enabled" ∷
+    codes "rule d2 enabled" ∷ codes "rule d3 enabled" ∷ codes "end" ∷ [])
 unfolding digits
 rounds = refl
 

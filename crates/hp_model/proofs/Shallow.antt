@@ -32,7 +32,8 @@ closed_shallow (veto_by r) S c h k = (tt, k)
 abbrev pub may_fire : Library → (most : ℕ) → ℕ → ℕ → Bool
 may_fire library most d n = rule_within library (suc most - d) (rule_at library n)
 
-shorter : (library : Library) (k j : ℕ) (rule : Rule) → j ≡ k - 1 → IsTrue (rule_within library k rule) → IsTrue (list_all (λ n. rule_within library j (rule_at library n)) (rule_triggers library rule))
+shorter : (library : Library) (k j : ℕ) (rule : Rule) → j ≡ k - 1 → IsTrue (rule_within library k rule)
+    → IsTrue (list_all (λ n. rule_within library j (rule_at library n)) (rule_triggers library rule))
 shorter library zero j rule e h = cc
 shorter library (suc k) j rule e h =
     let same : k ≡ j = omega (arith, e) in
@@ -104,7 +105,8 @@ module _ (library : Library) (most : ℕ) (few : most ≤ library.depth_limit) w
   pub unit_passes : (u : Unit) → IsTrue (unit_within library most u) → Passes (may_fire library most) 1 (unit_triggers library u)
   unit_passes u h = let same : most ≡ suc most - 1 = omega arith in subst (λ k. IsTrue (list_all (λ n. rule_within library k (rule_at library n)) (unit_triggers library u))) same h
 
-  unit_shallow : (u : Unit) → IsTrue (unit_within library most u) → (S : State) → TransactionsHaveOnly (everywhere NotTooDeep) (transactions_of (run_unit library u S)) × (length (run_unit library u S).generations ≤ 2 * most + 1)
+  unit_shallow : (u : Unit) → IsTrue (unit_within library most u) → (S : State) → TransactionsHaveOnly (everywhere NotTooDeep) (transactions_of (run_unit library u S))
+      × (length (run_unit library u S).generations ≤ 2 * most + 1)
   unit_shallow u ok S =
       let first = alone None (top library (now_in u) 0 (unit_work library u) S) in
       let left = unit_leaves library (may_fire library most) guard u S (unit_passes u ok) in
@@ -159,7 +161,8 @@ bounds_each_script library most h [] = refl
 bounds_each_script library most h (u ∷ us) =
     and_from (unit_within library most u) (list_all (unit_within library most) us) (bounds_each_unit library most h u) (bounds_each_script library most h us)
 
-units_shallow : (library : Library) (us : List Unit) (S : State) → IsTrue (list_all (unit_within library library.depth_limit) us) → AllByRecursion (ReportHasOnly (everywhere NotTooDeep)) (run_units library us S).units
+units_shallow : (library : Library) (us : List Unit) (S : State) → IsTrue (list_all (unit_within library library.depth_limit) us)
+    → AllByRecursion (ReportHasOnly (everywhere NotTooDeep)) (run_units library us S).units
 units_shallow library [] S h = tt
 units_shallow library (u ∷ us) S h =
     let parts = and_parts (unit_within library library.depth_limit u) (list_all (unit_within library library.depth_limit) us) h in (

@@ -1,6 +1,7 @@
 -- A snapshot of a fit state leaves a state that is like it, if each enabled rule's event forgets.
 use native.Mathlib.Omega.{arith}
-use Rattle.std.proofs.Common.{◌≡◌, refl, sym, ap, ◌∙◌, subst, ℕ, zero, suc, ℤ, Bool, true, false, ◌||◌, cond, IsTrue, List, [], ◌∷◌, ◌++◌, append_assoc, append-nil, length, map, Option, None, Some, option_map}
+use Rattle.std.proofs.Common.{◌≡◌, refl, sym, ap, ◌∙◌, subst, ℕ, zero, suc, ℤ, Bool, true, false, ◌||◌, cond, IsTrue, List, [], ◌∷◌, ◌++◌, append_assoc, append-nil, length, map}
+use Rattle.std.proofs.Common.{Option, None, Some, option_map}
 use Rattle.std.specs.Prelude.{Ok, Err, bytes_eq, flat_map, replicate, if◌then◌else◌}
 use Rattle.std.specs.Ordering.{is_eq, match_ordering, ordering_reverse}
 use Rattle.std.specs.Option.{option_or}
@@ -18,11 +19,13 @@ use Rattle.hp_model.specs.Occurrences.{Primitive, created, commit_reached, momen
 use Rattle.hp_model.specs.Expressions.{Environment, constant}
 use Rattle.hp_model.specs.Events.{Event, pattern_event, or_event, seq_event, closure_event, occurrence_of, is_pure, mentions}
 use Rattle.hp_model.specs.Rules.{Rule, no_rule, Library, rule_at, class_at, no_class, create, on_rule, install, disable, RuleOperation, Body, ◌then◌}
-use Rattle.hp_model.specs.State.{ObjectName, compare_names, Objects, State, RuleState, Status, absent, enabled, disabled, with_status, rule_state, with_rule, extended, extended_rule, find_object, write_object, initial_state, object_fits}
+use Rattle.hp_model.specs.State.{ObjectName, compare_names, Objects, State, RuleState, Status, absent, enabled, disabled, with_status, rule_state, with_rule, extended}
+use Rattle.hp_model.specs.State.{extended_rule, find_object, write_object, initial_state, object_fits}
 use Rattle.hp_model.specs.Scopes.{field_names}
 use Rattle.hp_model.specs.Tree.{Task, Items, no_items, operation, append, create_op, rule_op}
 use Rattle.hp_model.specs.Transactions.{done, Course, Work, joined, then_do, with_value, with_items, closed}
-use Rattle.hp_model.specs.Firing.{Level, start, task_if, triggered_by, triggered_from, triggered, signal_in, Context, operated, created_if_absent, assigned, of_kind, made_row, keyed_row, operated_rule, run_statement, run_body, level_at, fire_task}
+use Rattle.hp_model.specs.Firing.{Level, start, task_if, triggered_by, triggered_from, triggered, signal_in, Context, operated, created_if_absent, assigned, of_kind, made_row}
+use Rattle.hp_model.specs.Firing.{keyed_row, operated_rule, run_statement, run_body, level_at, fire_task}
 use Rattle.hp_model.specs.Cascade.{Unit, transaction, moment, now_in, no_context, unit_work, most_rounds, rounds, top_course, alone, due, cascade, run_unit, run_units}
 use Rattle.hp_model.specs.Snapshots.{SameFuture, RulesAlike, StatesAlike, assignments_of, creations, restored, restorations, snapshot, forgets, SnapshotsAreAlike}
 use Rattle.hp_model.proofs.Ordered.{names_total}
@@ -181,7 +184,8 @@ module _ (library : Library) where
 
   quiet_unit : (u : Unit) (S T : State) → Quietly (then_do (unit_work library u S) (signal_in (level_at library (now_in u) 0) commit_reached)) T → (run_unit library u S).state ≡ T
   quiet_unit u S T quietly =
-      let course : top_course library (now_in u) 0 (unit_work library u) S ≡ quiet quietly.items T = ap (rounds (most_rounds library) (fire_task library)) quietly.is ∙ rounds_quiet (most_rounds library) quietly.items T in
+      let course : top_course library (now_in u) 0 (unit_work library u) S ≡ quiet quietly.items T = ap (rounds (most_rounds library) (fire_task library)) quietly.is
+      ∙ rounds_quiet (most_rounds library) quietly.items T in
       ap (λ (c : Course). (let g = alone None (closed S c) in (cascade (most_rounds library) library (due g.detached) g.state).state)) course
       ∙ nothing_due (most_rounds library) T
 
@@ -230,7 +234,8 @@ module _ (library : Library) where
         (sym (keyed_same context.environment o.0.key (class_at library o.0.class).fields o.1 fits.0 fits.1))
         (subst (λ found. Quietly (created_if_absent level o.0.class o.0.key o.1 found (resting os)) (resting (os ++ o ∷ []))) (sym (not_found os o below))
         (subst (λ after. Quietly (operated level (create_op o.0.class o.0.key o.1) (created o.0.class o.0.key o.1) after (resting os)) (resting (os ++ o ∷ []))) (sym (written_last os o below))
-        (then_quietly (with_items (operation (create_op o.0.class o.0.key o.1) no_items) (resting (os ++ o ∷ []))) (signal_in level (created o.0.class o.0.key o.1)) (resting (os ++ o ∷ [])) (resting (os ++ o ∷ []))
+        (then_quietly (with_items (operation (create_op o.0.class o.0.key o.1) no_items) (resting (os ++ o ∷ []))) (signal_in level (created o.0.class o.0.key o.1))
+        (resting (os ++ o ∷ [])) (resting (os ++ o ∷ []))
         (record { items = operation (create_op o.0.class o.0.key o.1) no_items; is = refl }) (at_rest level refl (created o.0.class o.0.key o.1) (os ++ o ∷ [])))))
 
     all_created : (os part rest : Objects) → IsStrictlySortedBy compare_names (names (os ++ (part ++ rest))) → AllByRecursion Fits part
@@ -292,11 +297,14 @@ module _ (library : Library) where
     all_restored objects before (r ∷ rs) n is =
         let longer : suc n ≡ length (before ++ fresh r ∷ []) = ap suc is ∙ sym (length-append before (fresh r ∷ []) ∙ omega arith) in
         let more = all_restored objects (before ++ fresh r ∷ []) rs (suc n) longer in
-        subst (λ k. Quietly (run_body (restored k r.status (restorations (suc n) rs)) level context (partly objects before (suc (length rs)))) (record { objects = objects; rules = before ++ fresh r ∷ map fresh rs })) (sym is)
+        subst (λ k. Quietly (run_body (restored k r.status (restorations (suc n) rs)) level context (partly objects before (suc (length rs))))
+        (record { objects = objects; rules = before ++ fresh r ∷ map fresh rs })) (sym is)
         (one_restored r.status objects before (length rs) (restorations (suc n) rs) (record { objects = objects; rules = before ++ fresh r ∷ map fresh rs })
-        (subst (λ all. Quietly (run_body (restorations (suc n) rs) level context (at_seam objects before (fresh r) (replicate (length rs) (with_status absent)))) (record { objects = objects; rules = all }))
+        (subst (λ all. Quietly (run_body (restorations (suc n) rs) level context (at_seam objects before (fresh r) (replicate (length rs) (with_status absent))))
+        (record { objects = objects; rules = all }))
         (append_assoc before (fresh r ∷ []) (map fresh rs))
-        (subst (λ all. Quietly (run_body (restorations (suc n) rs) level context (record { objects = objects; rules = all })) (record { objects = objects; rules = (before ++ fresh r ∷ []) ++ map fresh rs }))
+        (subst (λ all. Quietly (run_body (restorations (suc n) rs) level context (record { objects = objects; rules = all }))
+        (record { objects = objects; rules = (before ++ fresh r ∷ []) ++ map fresh rs }))
         (append_assoc before (fresh r ∷ []) (replicate (length rs) (with_status absent))) more)))
 
     -- ---- no rule fires at the commit
@@ -325,13 +333,15 @@ module _ (library : Library) where
     rules_restored objects rs long h =
         quiet_unit (transaction now (restorations 0 rs)) (resting objects) (left objects rs)
         (then_quietly (run_body (restorations 0 rs) level context (resting objects)) (signal_in level commit_reached) (record { objects = objects; rules = map fresh rs }) (left objects rs)
-        (subst (λ n. Quietly (run_body (restorations 0 rs) level context (record { objects = objects; rules = replicate n (with_status absent) })) (record { objects = objects; rules = map fresh rs })) long
+        (subst (λ n. Quietly (run_body (restorations 0 rs) level context (record { objects = objects; rules = replicate n (with_status absent) }))
+        (record { objects = objects; rules = map fresh rs })) long
         (all_restored objects [] rs 0 refl))
         (silent level commit_reached (record { objects = objects; rules = map fresh rs }) (tasks_pass 0 library.rules rs h)))
 
     -- ---- the whole snapshot
 
-    distinct_at : (classes : List ClassDef) (n : ℕ) → AllByRecursion (λ (c : ClassDef). IsDistinct bytes_eq (field_names c.fields)) classes → IsDistinct bytes_eq (field_names (slice_index_or classes n no_class).fields)
+    distinct_at : (classes : List ClassDef) (n : ℕ) → AllByRecursion (λ (c : ClassDef). IsDistinct bytes_eq (field_names c.fields)) classes
+        → IsDistinct bytes_eq (field_names (slice_index_or classes n no_class).fields)
     unfolding IsDistinct
     distinct_at [] n h = tt
     distinct_at (c ∷ cs) zero h = h.0
@@ -382,7 +392,8 @@ snapshots_are_alike library S now times parts fit_library fit same_objects h =
     let units = map (λ (part : Objects). transaction now (creations part)) parts ++ end in
     let at_end : (run_units library (snapshot now times parts S.rules) (initial_state library)).state ≡ left library now S.objects S.rules =
     moments_pass library times units []
-    ∙ parts_created library now [] parts end (subst (λ objects. IsStrictlySortedBy compare_names (names objects)) (sym same_objects) fit.ordered.objects_rise) (subst (AllByRecursion (Fits library)) (sym same_objects) rows)
+    ∙ parts_created library now [] parts end (subst (λ objects. IsStrictlySortedBy compare_names (names objects)) (sym same_objects) fit.ordered.objects_rise)
+    (subst (AllByRecursion (Fits library)) (sym same_objects) rows)
     ∙ ap (λ objects. (run_units library end (resting library objects)).state) same_objects
     ∙ rules_restored library now S.objects S.rules fit.ordered.each_rule h in
     subst (StatesAlike library S) (sym at_end) (record {
@@ -390,6 +401,7 @@ snapshots_are_alike library S now times parts fit_library fit same_objects h =
       rules = sym (length-map (map (λ (r : RuleState). with_status r.status) S.rules) (extended_rule commit_reached) ∙ length-map S.rules (λ (r : RuleState). with_status r.status));
       each = λ n.
           subst (RulesAlike (rule_at library n).event (rule_state S n))
-          (sym (rule_state-extended commit_reached (record { objects = S.objects; rules = map (λ (r : RuleState). with_status r.status) S.rules }) n ∙ ap (extended_rule commit_reached) (get_or-map (λ (r : RuleState). with_status r.status) S.rules n (with_status absent))))
+          (sym (rule_state-extended commit_reached (record { objects = S.objects; rules = map (λ (r : RuleState). with_status r.status) S.rules }) n
+          ∙ ap (extended_rule commit_reached) (get_or-map (λ (r : RuleState). with_status r.status) S.rules n (with_status absent))))
           (rule_left library (rule_at library n).event (rule_state S n).status (rule_state S n).past (h n));
     })

@@ -10,11 +10,13 @@ use Rattle.hp_model.specs.Refusals.{Path, item_at, text_limit, over_limit, event
 use Rattle.hp_model.specs.Parts.{index_at, number_from}
 use Rattle.hp_model.specs.Scopes.{Setting}
 use Rattle.hp_model.specs.ExpressionGrammar as X
-use Rattle.hp_model.specs.ExpressionGrammar.{ExpressionForm, expression_form_at, text_at, field_of_at, key_of_at, new_field_at, old_field_at, key_in_at, argument_at, time_of_at, value_named_at, operands_at, expression_from, expression_within}
+use Rattle.hp_model.specs.ExpressionGrammar.{ExpressionForm, expression_form_at, text_at, field_of_at, key_of_at, new_field_at, old_field_at, key_in_at, argument_at, time_of_at}
+use Rattle.hp_model.specs.ExpressionGrammar.{value_named_at, operands_at, expression_from, expression_within}
 use Rattle.hp_model.specs.EventGrammar as E
 use Rattle.hp_model.specs.EventGrammar.{EventForm, event_form_at, on_create_at, on_update_at, on_delete_at, on_signal_at, at_moment_at, every_moment_at, parts_at, event_from, event_within}
 use Rattle.hp_model.specs.Checked.{Checked, known_name_check, name_check, field_check, operands_check, expression_parts_check, expression_check, event_parts_check, event_check}
-use Rattle.hp_model.proofs.WellFormedParts.{Reads, Reads-value, Reads-none, Reads-any, Reads-then, Reads-unless, passes_then, name_reads, name_passes, row_reads, let_reads, place_reads, number_reads, limit_passes}
+use Rattle.hp_model.proofs.WellFormedParts.{Reads, Reads-value, Reads-none, Reads-any, Reads-then, Reads-unless, passes_then, name_reads, name_passes, row_reads, let_reads}
+use Rattle.hp_model.proofs.WellFormedParts.{place_reads, number_reads, limit_passes}
 
 -- passes a check at any path
 abbrev pub Passes : {A : Type 0} → (Path → A → Checked) → A → Type 0
@@ -30,7 +32,8 @@ text_reads : (part : Path → Expression → Checked) (setting : Setting) (t : L
 unfolding text_at
 text_reads part setting t = Reads-unless (nat_lt 1024 (length t)) _ _ λ few q. limit_passes 1024 text_limit (length t) (length t) refl few
 
-field_reads : (part : Path → Expression → Checked) (setting : Setting) (path : Path) (variable field : Data) → Reads (Passes (expression_parts_check part setting.names)) (field_of_at setting path variable field)
+field_reads : (part : Path → Expression → Checked) (setting : Setting) (path : Path) (variable field : Data)
+    → Reads (Passes (expression_parts_check part setting.names)) (field_of_at setting path variable field)
 unfolding field_of_at field_check
 field_reads part setting path variable field =
     Reads-then (row_reads setting.names (item_at path 1) variable) λ x row.
@@ -106,7 +109,8 @@ pub expression_reads : (setting : Setting) (levels : ℕ) → PartReads (express
 unfolding expression_within expression_check
 expression_reads setting zero path d = Reads-then (Reads-any (expression_form_at setting.version path d)) λ form _. Reads-none (over_limit expression_limit)
 expression_reads setting (suc levels) path d =
-    Reads-then (Reads-any (expression_form_at setting.version path d)) λ form _. expression_from_reads setting (expression_within setting levels) (expression_check setting.names levels) (expression_reads setting levels) path form
+    Reads-then (Reads-any (expression_form_at setting.version path d)) λ form _. expression_from_reads setting (expression_within setting levels)
+    (expression_check setting.names levels) (expression_reads setting levels) path form
 
 -- ---- events
 

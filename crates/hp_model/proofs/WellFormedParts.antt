@@ -1,5 +1,6 @@
 -- What the grammar reads is well formed: how readings and checks compose, names, numbers and lists.
-use Rattle.std.proofs.Common.{arith, ◌≡◌, refl, ap, sym, ◌∙◌, subst, ℕ, suc, ◌+◌, ◌<◌, ℤ, pos, negsuc, List, [], ◌∷◌, ◌++◌, length, append_assoc, append-nil, Option, None, Some, Bool, true, false, ◌||◌}
+use Rattle.std.proofs.Common.{arith, ◌≡◌, refl, ap, sym, ◌∙◌, subst, ℕ, suc, ◌+◌, ◌<◌, ℤ, pos, negsuc, List, [], ◌∷◌, ◌++◌, length, append_assoc, append-nil, Option, None, Some}
+use Rattle.std.proofs.Common.{Bool, true, false, ◌||◌}
 use Rattle.std.proofs.lemmas.Bool.Decides.{nat_tests}
 use Rattle.std.specs.Prelude.{⊤, Ok, Err, not, nat_lt, cond, is_some, bytes_eq, option_and_then, if◌then◌else◌}
 use Rattle.std.specs.List.{list_any, position_from}

@@ -15,10 +15,14 @@ use Rattle.hp_model.specs.StatementGrammar.{statement_within, statements_at, bod
 use Rattle.hp_model.specs.RuleHeads as H
 use Rattle.hp_model.specs.RuleHeads.{RuleHead, rule_parts_of, rule_head_at, rule_heads_at}
 use Rattle.hp_model.specs.Decode as D
-use Rattle.hp_model.specs.Decode.{Version, EntryForm, entry_form_of, entry_from, let_entry_at, entry_at, closed_at, depth_in, depth_at, depth_if_any, kind_at, field_at, fields_at, class_at, classes_at, coupling_at, condition_at, acting, rule_at, rules_at, script_scope}
+use Rattle.hp_model.specs.Decode.{Version, EntryForm, entry_form_of, entry_from, let_entry_at, entry_at, closed_at, depth_in, depth_at, depth_if_any, kind_at, field_at, fields_at}
+use Rattle.hp_model.specs.Decode.{class_at, classes_at, coupling_at, condition_at, acting, rule_at, rules_at, script_scope}
 use Rattle.hp_model.specs.Checked as C
-use Rattle.hp_model.specs.Checked.{Checked, new_name_check, each_check, event_check, body_check, statement_check, field_definition_check, fields_check, class_definition_check, classes_check, head_check, heads_check, query_check, let_entry_check, entry_check, condition_check, rule_check, rules_check, depth_check, library_check, script_body_check}
-use Rattle.hp_model.proofs.WellFormedParts.{Reads, Reads-value, Reads-none, Reads-any, Reads-more, Reads-both, Reads-then, Reads-unless, passes_then, new_name_reads, new_row_reads, place_reads, short_list_reads, limit_passes, each_reads}
+use Rattle.hp_model.specs.Checked.{Checked, new_name_check, each_check, event_check, body_check, statement_check, field_definition_check, fields_check, class_definition_check}
+use Rattle.hp_model.specs.Checked.{classes_check, head_check, heads_check, query_check, let_entry_check, entry_check, condition_check, rule_check, rules_check, depth_check}
+use Rattle.hp_model.specs.Checked.{library_check, script_body_check}
+use Rattle.hp_model.proofs.WellFormedParts.{Reads, Reads-value, Reads-none, Reads-any, Reads-more, Reads-both, Reads-then, Reads-unless, passes_then, new_name_reads, new_row_reads}
+use Rattle.hp_model.proofs.WellFormedParts.{place_reads, short_list_reads, limit_passes, each_reads}
 use Rattle.hp_model.proofs.WellFormedExpressions.{Passes, PartReads, event_reads}
 use Rattle.hp_model.proofs.WellFormedStatements.{whole_expression_reads, aggregate_reads, checking, body_reads, statement_reads}
 
@@ -163,7 +167,8 @@ rule_reads version scope path head =
     Reads-then (Reads-any (coupling_at version (item_at path 2) head.parts.event_coupling)) λ ec _.
     Reads-then (condition_reads version (class_names scope.classes) (item_at path 3) head.parts.condition) λ condition of_condition.
     Reads-then (Reads-any (coupling_at version (item_at path 4) head.parts.action_coupling)) λ ca _.
-    Reads-then (body_reads (statement_within (acting scope condition) 16) (statement_check (checking (acting scope condition)) 16) (statement_reads (acting scope condition) 16) (record { version = version; names = S.names_of condition }) (item_at path 5) head.parts.action) λ action of_action.
+    Reads-then (body_reads (statement_within (acting scope condition) 16) (statement_check (checking (acting scope condition)) 16) (statement_reads (acting scope condition) 16)
+    (record { version = version; names = S.names_of condition }) (item_at path 5) head.parts.action) λ action of_action.
     Reads-then (Reads-any (closed_at (item_at path 6) head.parts.closing)) λ closed _.
     Reads-value _ (record {
       same_name = refl;

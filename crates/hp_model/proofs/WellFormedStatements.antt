@@ -13,10 +13,17 @@ use Rattle.hp_model.specs.ExpressionGrammar.{expression_at}
 use Rattle.hp_model.specs.AggregateGrammar as A
 use Rattle.hp_model.specs.AggregateGrammar.{AggregateForm, Over, is_aggregate, aggregate_form_at, over_at, terms_at, aggregate_from, single_at, aggregate_at}
 use Rattle.hp_model.specs.StatementGrammar as G
-use Rattle.hp_model.specs.StatementGrammar.{assigned_names, assigned_field_at, assignment_at, assignments_at, all_assignments_at, StatementForm, statement_form_at, create_at, update_at, delete_at, arguments_at, signal_at, emit_at, veto_with_at, on_rule_at, fire_at, Reading, body_of, statements_by, if_at, each_at, query_at, for_at, with_at, sub_at, let_value_at, statement_from, statement_within}
+use Rattle.hp_model.specs.StatementGrammar.{assigned_names, assigned_field_at, assignment_at, assignments_at, all_assignments_at, StatementForm, statement_form_at, create_at}
+use Rattle.hp_model.specs.StatementGrammar.{update_at, delete_at, arguments_at, signal_at, emit_at, veto_with_at, on_rule_at, fire_at, Reading, body_of, statements_by, if_at}
+use Rattle.hp_model.specs.StatementGrammar.{each_at, query_at, for_at, with_at, sub_at, let_value_at, statement_from, statement_within}
 use Rattle.hp_model.specs.Checked as C
-use Rattle.hp_model.specs.Checked.{Checked, is_known, new_name_check, name_check, known_name_check, number_check, limit_check, each_check, whole_expression_check, class_check, assigned_check, assignment_check, assignments_check, create_check, update_check, delete_check, arguments_check, signal_check, over_check, terms_check, aggregate_check, let_value_check, StatementCheck, statements_check, body_check, when_check, each_row_check, for_answer_check, with_object_check, subtransaction_check, veto_check, statement_parts_check, statement_check}
-use Rattle.hp_model.proofs.WellFormedParts.{Reads, Reads-value, Reads-none, Reads-any, Reads-more, Reads-then, Reads-unless, Reads-if, passes_then, name_reads, name_passes, any_position, known_same, known_passes, new_name_reads, new_row_reads, IsNumber, place_reads, short_list_reads, limit_passes, each_reads}
+use Rattle.hp_model.specs.Checked.{Checked, is_known, new_name_check, name_check, known_name_check, number_check, limit_check, each_check, whole_expression_check, class_check}
+use Rattle.hp_model.specs.Checked.{assigned_check, assignment_check, assignments_check, create_check, update_check, delete_check, arguments_check, signal_check, over_check}
+use Rattle.hp_model.specs.Checked.{terms_check, aggregate_check, let_value_check, StatementCheck, statements_check, body_check, when_check, each_row_check, for_answer_check}
+use Rattle.hp_model.specs.Checked.{with_object_check, subtransaction_check, veto_check, statement_parts_check, statement_check}
+use Rattle.hp_model.proofs.WellFormedParts.{Reads, Reads-value, Reads-none, Reads-any, Reads-more, Reads-then, Reads-unless, Reads-if, passes_then, name_reads, name_passes}
+use Rattle.hp_model.proofs.WellFormedParts.{any_position, known_same, known_passes, new_name_reads, new_row_reads, IsNumber, place_reads, short_list_reads, limit_passes}
+use Rattle.hp_model.proofs.WellFormedParts.{each_reads}
 use Rattle.hp_model.proofs.WellFormedExpressions.{Passes, PartReads, expression_reads}
 
 pub whole_expression_reads : (setting : S.Setting) → PartReads (expression_at setting) (whole_expression_check setting.names)

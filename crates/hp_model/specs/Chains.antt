@@ -5,7 +5,8 @@ use Rattle.std.specs.List.{list_all, AllByRecursion}
 use Rattle.hp_model.specs.Values.{Cause, exists, missing, wrong_kind, overflow, divide_by_zero, no_parameter, depth_exceeded, requested, vetoed}
 use Rattle.hp_model.specs.Occurrences.{Primitive, created, updated, deleted, signalled, commit_reached, moment_reached}
 use Rattle.hp_model.specs.Events.{Event, pattern_event, or_event, seq_event, closure_event, matches}
-use Rattle.hp_model.specs.Rules.{is_detached, Statement, create, update, delete, signal, emit, when, each, for_answer, with_object, subtransaction, let_value, abort, veto, veto_with, on_rule, fire, Body, empty, ◌then◌, Rule, Library, rule_at}
+use Rattle.hp_model.specs.Rules.{is_detached, Statement, create, update, delete, signal, emit, when, each, for_answer, with_object, subtransaction, let_value, abort, veto}
+use Rattle.hp_model.specs.Rules.{veto_with, on_rule, fire, Body, empty, ◌then◌, Rule, Library, rule_at}
 use Rattle.hp_model.specs.State.{State}
 use Rattle.hp_model.specs.Tree.{Task, Node, sub_node, fire_node, act_node, Items, no_items, operation, emission, detachment, node}
 use Rattle.hp_model.specs.Cascade.{Unit, transaction, moment, Transaction, transactions_of, run_unit, Script, evaluate}

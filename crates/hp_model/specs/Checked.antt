@@ -5,8 +5,11 @@ use Rattle.std.specs.List.{slice_index_or, list_any}
 use Rattle.hp_model.specs.Values.{Name, Value, text, Field, ClassDef, ◌>>=◌}
 use Rattle.hp_model.specs.Expressions.{Expression, constant, arithmetic, negated, inverted, both, either, compared, field_of, key_of, new_field, old_field, value_named}
 use Rattle.hp_model.specs.Events.{Pattern, on_create, on_update, on_delete, on_signal, every_moment, Event, pattern_event, or_event, seq_event, closure_event}
-use Rattle.hp_model.specs.Rules.{Query, Aggregate, count_over, sum_over, least_over, greatest_over, next_key, single, Entry, query_entry, no_entry, let_entry, Assignment, Statement, create, update, delete, signal, emit, when, each, for_answer, with_object, subtransaction, let_value, veto, veto_with, on_rule, fire, Body, empty, ◌then◌, Rule, Library, no_class}
-use Rattle.hp_model.specs.Refusals.{Path, under_root, item_at, Limit, classes_limit, fields_limit, rules_limit, expression_limit, event_limit, nesting_limit, text_limit, depth_limit_word, arguments_limit, wrong_shape, bad_name, over_limit, Decoded}
+use Rattle.hp_model.specs.Rules.{Query, Aggregate, count_over, sum_over, least_over, greatest_over, next_key, single, Entry, query_entry, no_entry, let_entry, Assignment}
+use Rattle.hp_model.specs.Rules.{Statement, create, update, delete, signal, emit, when, each, for_answer, with_object, subtransaction, let_value, veto, veto_with, on_rule, fire}
+use Rattle.hp_model.specs.Rules.{Body, empty, ◌then◌, Rule, Library, no_class}
+use Rattle.hp_model.specs.Refusals.{Path, under_root, item_at, Limit, classes_limit, fields_limit, rules_limit, expression_limit, event_limit, nesting_limit, text_limit}
+use Rattle.hp_model.specs.Refusals.{depth_limit_word, arguments_limit, wrong_shape, bad_name, over_limit, Decoded}
 use Rattle.hp_model.specs.Parts.{is_name}
 pub use Rattle.hp_model.specs.Scopes.{class_names, field_names, query_names, Names, taken, no_names, knowing_row, knowing_value, names_of}
 pub use Rattle.hp_model.specs.StatementGrammar.{assigned_names}

@@ -1,7 +1,8 @@
 -- The script's grammar, in the order of its checks: the root's shape, the version, the depth limit, the classes, the
 -- form and name of each rule, each rule's other parts, and the items. Each part is read depth first, from left to
 -- right.
-use Rattle.std.specs.Prelude.{ℕ, suc, ◌+◌, ◌-◌, ℤ, pos, negsuc, ◌==◌, ◌||◌, ◌&&◌, Bool, true, false, nat_lt, List, [], ◌∷◌, ◌++◌, length, map, filter, codes, Option, Some, None, option_map, option_and_then, unwrap_or, Ok, Err, bytes_eq, if◌then◌else◌}
+use Rattle.std.specs.Prelude.{ℕ, suc, ◌+◌, ◌-◌, ℤ, pos, negsuc, ◌==◌, ◌||◌, ◌&&◌, Bool, true, false, nat_lt, List, [], ◌∷◌, ◌++◌, length, map, filter, codes, Option, Some, None}
+use Rattle.std.specs.Prelude.{option_map, option_and_then, unwrap_or, Ok, Err, bytes_eq, if◌then◌else◌}
 use Rattle.std.specs.List.{list_any, range_with_len}
 use Rattle.serde_json.specs.Data.{Data}
 use Rattle.serde_json.specs.Events.{members_len}
@@ -11,7 +12,8 @@ use Rattle.hp_model.specs.Occurrences.{moment_reached}
 use Rattle.hp_model.specs.Events.{mentions}
 use Rattle.hp_model.specs.Rules.{Coupling, immediate, deferred, separate, dependent, exclusive, Query, Entry, query_entry, no_entry, let_entry, Rule}
 use Rattle.hp_model.specs.Cascade.{Unit, transaction, moment, Script}
-use Rattle.hp_model.specs.Refusals.{Path, under_root, item_at, size_limit, classes_limit, fields_limit, depth_limit_word, moments_limit, unreadable, wrong_shape, over_limit, unknown_version, Decoded, shaped}
+use Rattle.hp_model.specs.Refusals.{Path, under_root, item_at, size_limit, classes_limit, fields_limit, depth_limit_word, moments_limit, unreadable, wrong_shape, over_limit}
+use Rattle.hp_model.specs.Refusals.{unknown_version, Decoded, shaped}
 use Rattle.hp_model.specs.Json.{json_of, list_of, Form, form_of, pair_of, beside}
 use Rattle.hp_model.specs.Parts.{new_name_at, place_at, integer_at, number_from, list_at, short_list_at, read_each}
 use Rattle.hp_model.specs.Scopes.{class_names, field_names, query_names, Scope, names_of, no_names, is_fourth, Setting, row_setting, new_row_at}

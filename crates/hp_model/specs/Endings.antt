@@ -2,7 +2,8 @@
 use Rattle.std.specs.Prelude.{ℕ, List, ⊤}
 use Rattle.std.specs.List.{AllByRecursion}
 use Rattle.hp_model.specs.Values.{Cause}
-use Rattle.hp_model.specs.Tree.{Ending, committed, aborted, Condition, without_action, with_fault, with_action, with_later_action, Node, sub_node, fire_node, act_node, Items, no_items, operation, emission, detachment, node}
+use Rattle.hp_model.specs.Tree.{Ending, committed, aborted, Condition, without_action, with_fault, with_action, with_later_action, Node, sub_node, fire_node, act_node, Items}
+use Rattle.hp_model.specs.Tree.{no_items, operation, emission, detachment, node}
 use Rattle.hp_model.specs.Cascade.{Transaction, TransactionReport, UnitReport}
 
 -- what a cause may end: a top-level transaction, a node inside one, or the condition of a rule

@@ -6,7 +6,9 @@ use Rattle.serde_json.specs.Data.{Data, number, boolean, string}
 use Rattle.serde_json.specs.Find.{as_i64}
 use Rattle.hp_model.specs.Values as V
 use Rattle.hp_model.specs.Values.{Name, ◌>>=◌}
-use Rattle.hp_model.specs.Expressions.{Arithmetic, plus, minus, times, quotient, remainder, Comparison, equal, unequal, less, at_most, greater, at_least, Expression, constant, arithmetic, negated, inverted, both, either, compared, field_of, key_of, new_field, old_field, key_in, argument, time_of, occurrence_count, value_named, time_now}
+use Rattle.hp_model.specs.Expressions.{Arithmetic, plus, minus, times, quotient, remainder, Comparison, equal, unequal, less, at_most, greater, at_least, Expression, constant}
+use Rattle.hp_model.specs.Expressions.{arithmetic, negated, inverted, both, either, compared, field_of, key_of, new_field, old_field, key_in, argument, time_of, occurrence_count}
+use Rattle.hp_model.specs.Expressions.{value_named, time_now}
 use Rattle.hp_model.specs.Refusals.{Path, item_at, expression_limit, text_limit, over_limit, Decoded, shaped, whole}
 use Rattle.hp_model.specs.Json.{Form, form_of, beside}
 use Rattle.hp_model.specs.Parts.{name_at, index_at}

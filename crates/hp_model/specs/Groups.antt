@@ -1,5 +1,6 @@
 -- A group of sibling firings that workers try at once and an owner settles in order. Each event is one atomic step.
-use Rattle.std.specs.Prelude.{◌≡◌, ℕ, Bool, true, false, not, ◌&&◌, ◌==◌, nat_lt, List, [], ◌∷◌, ◌++◌, length, Option, Some, None, is_some, slice_get, slice_set, if◌then◌else◌, replicate, ⊤, ◌⊎◌, take}
+use Rattle.std.specs.Prelude.{◌≡◌, ℕ, Bool, true, false, not, ◌&&◌, ◌==◌, nat_lt, List, [], ◌∷◌, ◌++◌, length, Option, Some, None, is_some, slice_get, slice_set, if◌then◌else◌}
+use Rattle.std.specs.Prelude.{replicate, ⊤, ◌⊎◌, take}
 use Rattle.std.specs.List.{list_any, list_all, filter_map, range_with_len, slice_index_or}
 use Rattle.std.specs.Option.{option_flatten}
 use Rattle.std.specs.Bool.{then_some}

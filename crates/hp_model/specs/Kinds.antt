@@ -1,14 +1,20 @@
 -- Kinds: which kinds of values expressions give, read off the library alone; and the law that where each use is of the
 -- right kind, nothing ends because of a wrong kind or a part that the occurrence lacks.
-use Rattle.std.specs.Prelude.{ℕ, zero, suc, ◌+◌, ◌*◌, ◌/◌, ◌^◌, nat_lt, unsigned_abs, Bool, true, false, ◌&&◌, ◌||◌, ◌==◌, IsTrue, ⊤, ◌≡◌, List, [], ◌∷◌, ◌++◌, Option, Some, None, is_some, option_map, unwrap_or, bytes_eq, slice_get, if◌then◌else◌}
+use Rattle.std.specs.Prelude.{ℕ, zero, suc, ◌+◌, ◌*◌, ◌/◌, ◌^◌, nat_lt, unsigned_abs, Bool, true, false, ◌&&◌, ◌||◌, ◌==◌, IsTrue, ⊤, ◌≡◌, List, [], ◌∷◌, ◌++◌, Option, Some, None}
+use Rattle.std.specs.Prelude.{is_some, option_map, unwrap_or, bytes_eq, slice_get, if◌then◌else◌}
 use Rattle.std.specs.Bool.{then_some}
 use Rattle.std.specs.List.{list_all, list_any, AllByRecursion}
 use Rattle.std.specs.Map.{lookup}
-use Rattle.hp_model.specs.Values.{Name, Value, integer, Kind, integer_kind, boolean_kind, text_kind, Field, Cause, exists, missing, wrong_kind, overflow, divide_by_zero, no_parameter, depth_exceeded, requested, vetoed, kind_of, is_kind}
+use Rattle.hp_model.specs.Values.{Name, Value, integer, Kind, integer_kind, boolean_kind, text_kind, Field, Cause, exists, missing, wrong_kind, overflow, divide_by_zero}
+use Rattle.hp_model.specs.Values.{no_parameter, depth_exceeded, requested, vetoed, kind_of, is_kind}
 use Rattle.hp_model.specs.Occurrences.{Primitive, signalled}
 use Rattle.hp_model.specs.Events.{Pattern, on_create, on_update, on_delete, on_signal, at_moment, every_moment, Event, pattern_event, or_event, seq_event, closure_event}
-use Rattle.hp_model.specs.Expressions.{Arithmetic, plus, minus, times, quotient, remainder, Comparison, equal, unequal, less, at_most, greater, at_least, Expression, constant, arithmetic, negated, inverted, both, either, compared, field_of, key_of, new_field, old_field, key_in, argument, time_of, occurrence_count, value_named, time_now}
-use Rattle.hp_model.specs.Rules.{Aggregate, count_over, sum_over, least_over, greatest_over, next_key, single, Entry, query_entry, no_entry, let_entry, Assignment, Statement, create, update, delete, signal, emit, when, each, for_answer, with_object, subtransaction, let_value, abort, veto, veto_with, on_rule, fire, Body, empty, ◌then◌, Rule, Library, class_at, rule_at}
+use Rattle.hp_model.specs.Expressions.{Arithmetic, plus, minus, times, quotient, remainder, Comparison, equal, unequal, less, at_most, greater, at_least, Expression, constant}
+use Rattle.hp_model.specs.Expressions.{arithmetic, negated, inverted, both, either, compared, field_of, key_of, new_field, old_field, key_in, argument, time_of, occurrence_count}
+use Rattle.hp_model.specs.Expressions.{value_named, time_now}
+use Rattle.hp_model.specs.Rules.{Aggregate, count_over, sum_over, least_over, greatest_over, next_key, single, Entry, query_entry, no_entry, let_entry, Assignment, Statement}
+use Rattle.hp_model.specs.Rules.{create, update, delete, signal, emit, when, each, for_answer, with_object, subtransaction, let_value, abort, veto, veto_with, on_rule, fire, Body}
+use Rattle.hp_model.specs.Rules.{empty, ◌then◌, Rule, Library, class_at, rule_at}
 use Rattle.hp_model.specs.Firing.{kind_in}
 use Rattle.hp_model.specs.State.{State, RuleState, IsFit}
 use Rattle.hp_model.specs.Tree.{Node, sub_node, fire_node, act_node}

@@ -2,7 +2,8 @@
 use Rattle.std.specs.Prelude.{ℕ, zero, suc, List, [], ◌∷◌, codes, true, false, Option, Some, None, Ok, Err}
 use Rattle.hp_model.specs.Values.{◌>>=◌}
 use Rattle.hp_model.specs.Json.{beside}
-use Rattle.hp_model.specs.NotationTokens.{Mark, or_mark, then_mark, until_mark, create_mark, update_mark, delete_mark, signal_mark, open_parenthesis, close_parenthesis, mark, word, Tokens, token, place}
+use Rattle.hp_model.specs.NotationTokens.{Mark, or_mark, then_mark, until_mark, create_mark, update_mark, delete_mark, signal_mark, open_parenthesis, close_parenthesis, mark, word}
+use Rattle.hp_model.specs.NotationTokens.{Tokens, token, place}
 use Rattle.hp_model.specs.NotationTree.{Node, form, Phrase}
 use Rattle.hp_model.specs.NotationPhrases.{is_mark, is_word, begins, past, passed, name, natural, Operator, most_operators, chain_from}
 use Rattle.hp_model.specs.NotationExpressions.{enclosed, too_deep}

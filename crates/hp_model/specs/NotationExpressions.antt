@@ -1,7 +1,9 @@
 -- The text notation of scripts: expressions. Operators have levels, from 1 for `or` to 6 for products.
 use Rattle.std.specs.Prelude.{ℕ, zero, suc, pos, neg_ℤ, ◌==◌, Bool, true, false, List, [], ◌∷◌, codes, Some, None, Ok, Err, bytes_eq, if◌then◌else◌}
 use Rattle.hp_model.specs.Values.{◌>>=◌}
-use Rattle.hp_model.specs.NotationTokens.{Mark, or_mark, and_mark, not_mark, true_mark, false_mark, new_mark, old_mark, event_mark, key_mark, open_parenthesis, close_parenthesis, open_bracket, close_bracket, point, equal_sign, unequal_sign, less_sign, at_most_sign, greater_sign, at_least_sign, plus_sign, minus_sign, times_sign, divided_sign, percent_sign, spelling, mark, word, quoted, number, string, token, ending, unreadable, place}
+use Rattle.hp_model.specs.NotationTokens.{Mark, or_mark, and_mark, not_mark, true_mark, false_mark, new_mark, old_mark, event_mark, key_mark, open_parenthesis, close_parenthesis}
+use Rattle.hp_model.specs.NotationTokens.{open_bracket, close_bracket, point, equal_sign, unequal_sign, less_sign, at_most_sign, greater_sign, at_least_sign, plus_sign, minus_sign}
+use Rattle.hp_model.specs.NotationTokens.{times_sign, divided_sign, percent_sign, spelling, mark, word, quoted, number, string, token, ending, unreadable, place}
 use Rattle.hp_model.specs.NotationTree as T
 use Rattle.hp_model.specs.NotationTree.{Node, form, Phrase}
 use Rattle.hp_model.specs.NotationPhrases.{is_mark, is_word, is_number, begins, past, passed, name, natural, Operator, with_right, most_operators, chain_from}

@@ -4,7 +4,9 @@ use Rattle.serde_json.specs.Data.{Data, number, unsigned, boolean, string, array
 use Rattle.hp_model.specs.Values.{Name, Kind, integer_kind, boolean_kind, text_kind}
 use Rattle.hp_model.specs.Rules.{Coupling}
 use Rattle.hp_model.specs.Report.{coupling_word}
-use Rattle.hp_model.specs.NotationTokens.{Mark, or_mark, and_mark, equal_sign, unequal_sign, less_sign, at_most_sign, greater_sign, at_least_sign, plus_sign, minus_sign, times_sign, divided_sign, percent_sign, create_mark, update_mark, delete_mark, install_mark, enable_mark, disable_mark, remove_mark, fire_mark, spelling}
+use Rattle.hp_model.specs.NotationTokens.{Mark, or_mark, and_mark, equal_sign, unequal_sign, less_sign, at_most_sign, greater_sign, at_least_sign, plus_sign, minus_sign}
+use Rattle.hp_model.specs.NotationTokens.{times_sign, divided_sign, percent_sign, create_mark, update_mark, delete_mark, install_mark, enable_mark, disable_mark, remove_mark}
+use Rattle.hp_model.specs.NotationTokens.{fire_mark, spelling}
 use Rattle.hp_model.specs.NotationTree.{number_data, root_data}
 
 abbrev pub items : List Data → Items

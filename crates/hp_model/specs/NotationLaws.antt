@@ -5,7 +5,11 @@ use Rattle.hp_model.specs.Parts.{is_name}
 use Rattle.hp_model.specs.NotationTokens.{Token, mark, word, quoted, number, string, reserved_word, Tokens, token, ending, unreadable, tokens}
 use Rattle.hp_model.specs.NotationTree as T
 use Rattle.hp_model.specs.NotationScripts.{has_let, read_script, read_line}
-use Rattle.hp_model.specs.NotationForms.{Expression, integer, truth, text, operation, inverted, negated, field_of, key_of, value, now, image_field, key_in, time_of, argument, occurrence_count, Event, on_change, on_signal, on_commit, at_moment, every_moment, or_event, then_event, closure_event, Rows, Aggregate, count_of, fold_of, next_key, plain, Assignment, Query, some_rows, no_rows, named_value, Field, Class, Rule, Item, transaction, clock, Script, Statement, set_object, delete, signal, emit, when, each, for_answer, with_object, with_value, subtransaction, abort, veto, veto_with, on_rule, Body, empty, ◌then◌, script_data, item_data}
+use Rattle.hp_model.specs.NotationForms.{Expression, integer, truth, text, operation, inverted, negated, field_of, key_of, value, now, image_field, key_in, time_of, argument}
+use Rattle.hp_model.specs.NotationForms.{occurrence_count, Event, on_change, on_signal, on_commit, at_moment, every_moment, or_event, then_event, closure_event, Rows, Aggregate}
+use Rattle.hp_model.specs.NotationForms.{count_of, fold_of, next_key, plain, Assignment, Query, some_rows, no_rows, named_value, Field, Class, Rule, Item, transaction, clock}
+use Rattle.hp_model.specs.NotationForms.{Script, Statement, set_object, delete, signal, emit, when, each, for_answer, with_object, with_value, subtransaction, abort, veto}
+use Rattle.hp_model.specs.NotationForms.{veto_with, on_rule, Body, empty, ◌then◌, script_data, item_data}
 use Rattle.hp_model.specs.NotationPrint.{Piece, Pieces, text_of, print_script, print_item}
 use Rattle.hp_model.specs.NotationValues.{print_value, print_item_value}
 

@@ -3,12 +3,21 @@ use Rattle.std.specs.Prelude.{ℕ, zero, suc, ◌*◌, ℤ, pos, negsuc, Bool, t
 use Rattle.hp_model.specs.Values.{Name}
 use Rattle.hp_model.specs.Rules.{Coupling, immediate, deferred, separate, dependent, exclusive}
 use Rattle.hp_model.specs.Report.{quoted as quoted_text}
-use Rattle.hp_model.specs.NotationTokens.{Mark, on_mark, if_mark, do_mark, where_mark, as_mark, set_mark, else_mark, otherwise_mark, then_mark, until_mark, or_mark, not_mark, true_mark, false_mark, new_mark, old_mark, event_mark, key_mark, deferred_mark, separate_mark, dependent_mark, exclusive_mark, delete_mark, signal_mark, emit_mark, each_mark, for_mark, with_mark, sub_mark, abort_mark, veto_mark, open_brace, close_brace, open_parenthesis, close_parenthesis, open_bracket, close_bracket, comma, colon, point, equal_sign, less_sign, greater_sign, minus_sign, spelling, reserved_word, Token, mark, word, quoted, number, string}
+use Rattle.hp_model.specs.NotationTokens.{Mark, on_mark, if_mark, do_mark, where_mark, as_mark, set_mark, else_mark, otherwise_mark, then_mark, until_mark, or_mark, not_mark}
+use Rattle.hp_model.specs.NotationTokens.{true_mark, false_mark, new_mark, old_mark, event_mark, key_mark, deferred_mark, separate_mark, dependent_mark, exclusive_mark}
+use Rattle.hp_model.specs.NotationTokens.{delete_mark, signal_mark, emit_mark, each_mark, for_mark, with_mark, sub_mark, abort_mark, veto_mark, open_brace, close_brace}
+use Rattle.hp_model.specs.NotationTokens.{open_parenthesis, close_parenthesis, open_bracket, close_bracket, comma, colon, point, equal_sign, less_sign, greater_sign, minus_sign}
+use Rattle.hp_model.specs.NotationTokens.{spelling, reserved_word, Token, mark, word, quoted, number, string}
 use Rattle.hp_model.specs.NotationPhrases.{is_mark, is_word}
 use Rattle.hp_model.specs.NotationExpressions.{level_of}
 use Rattle.hp_model.specs.NotationStatements.{aggregate_word}
 use Rattle.hp_model.specs.NotationForms as F
-use Rattle.hp_model.specs.NotationForms.{Operator, either, both, equal, unequal, less, at_most, greater, at_least, plus, minus, times, quotient, remainder, operator_mark, Image, new_image, old_image, Expression, operation, inverted, negated, field_of, key_of, value, now, image_field, key_in, time_of, argument, occurrence_count, change_mark, Event, on_change, on_signal, on_commit, at_moment, every_moment, or_event, then_event, closure_event, Rows, fold_word, Aggregate, count_of, fold_of, next_key, plain, Query, some_rows, no_rows, named_value, operation_mark, setting_mark, Assignment, Statement, set_object, delete, signal, emit, when, each, for_answer, with_object, with_value, subtransaction, abort, veto, veto_with, on_rule, Body, empty, ◌then◌, Field, kind_word, Class, Rule, Item, transaction, clock, Script}
+use Rattle.hp_model.specs.NotationForms.{Operator, either, both, equal, unequal, less, at_most, greater, at_least, plus, minus, times, quotient, remainder, operator_mark, Image}
+use Rattle.hp_model.specs.NotationForms.{new_image, old_image, Expression, operation, inverted, negated, field_of, key_of, value, now, image_field, key_in, time_of, argument}
+use Rattle.hp_model.specs.NotationForms.{occurrence_count, change_mark, Event, on_change, on_signal, on_commit, at_moment, every_moment, or_event, then_event, closure_event, Rows}
+use Rattle.hp_model.specs.NotationForms.{fold_word, Aggregate, count_of, fold_of, next_key, plain, Query, some_rows, no_rows, named_value, operation_mark, setting_mark, Assignment}
+use Rattle.hp_model.specs.NotationForms.{Statement, set_object, delete, signal, emit, when, each, for_answer, with_object, with_value, subtransaction, abort, veto, veto_with}
+use Rattle.hp_model.specs.NotationForms.{on_rule, Body, empty, ◌then◌, Field, kind_word, Class, Rule, Item, transaction, clock, Script}
 
 -- ---- pieces of text
 

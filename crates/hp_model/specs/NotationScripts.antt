@@ -2,7 +2,8 @@
 use Rattle.std.specs.Prelude.{ℕ, ℤ, pos, negsuc, Bool, true, false, ◌&&◌, ◌||◌, nat_le, List, [], ◌∷◌, codes, Option, Some, None, Result, Ok, Err, bytes_eq}
 use Rattle.hp_model.specs.Values.{◌>>=◌}
 use Rattle.hp_model.specs.Json.{beside}
-use Rattle.hp_model.specs.NotationTokens.{Mark, on_mark, if_mark, do_mark, immediate_mark, deferred_mark, separate_mark, dependent_mark, exclusive_mark, open_brace, close_brace, colon, spelling, Token, mark, word, quoted, Tokens, token, ending, place, size, tokens}
+use Rattle.hp_model.specs.NotationTokens.{Mark, on_mark, if_mark, do_mark, immediate_mark, deferred_mark, separate_mark, dependent_mark, exclusive_mark, open_brace, close_brace}
+use Rattle.hp_model.specs.NotationTokens.{colon, spelling, Token, mark, word, quoted, Tokens, token, ending, place, size, tokens}
 use Rattle.hp_model.specs.NotationTree as T
 use Rattle.hp_model.specs.NotationTree.{Node, Nodes, no_nodes, node, form, Phrase, Script}
 use Rattle.hp_model.specs.NotationPhrases.{is_mark, is_word, begins, past, passed, name, natural, repeated}

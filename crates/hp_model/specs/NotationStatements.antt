@@ -2,7 +2,10 @@
 use Rattle.std.specs.Prelude.{ℕ, zero, suc, Bool, true, false, List, [], ◌∷◌, codes, Option, Some, None, Ok, Err, bytes_eq}
 use Rattle.hp_model.specs.Values.{◌>>=◌}
 use Rattle.hp_model.specs.Json.{beside}
-use Rattle.hp_model.specs.NotationTokens.{Mark, where_mark, if_mark, as_mark, set_mark, else_mark, otherwise_mark, not_mark, true_mark, false_mark, new_mark, old_mark, event_mark, create_mark, update_mark, delete_mark, signal_mark, emit_mark, each_mark, for_mark, with_mark, sub_mark, abort_mark, veto_mark, install_mark, enable_mark, disable_mark, remove_mark, fire_mark, open_brace, close_brace, open_parenthesis, close_parenthesis, semicolon, equal_sign, minus_sign, Token, mark, word, quoted, number, string, Tokens, token, place, size}
+use Rattle.hp_model.specs.NotationTokens.{Mark, where_mark, if_mark, as_mark, set_mark, else_mark, otherwise_mark, not_mark, true_mark, false_mark, new_mark, old_mark, event_mark}
+use Rattle.hp_model.specs.NotationTokens.{create_mark, update_mark, delete_mark, signal_mark, emit_mark, each_mark, for_mark, with_mark, sub_mark, abort_mark, veto_mark}
+use Rattle.hp_model.specs.NotationTokens.{install_mark, enable_mark, disable_mark, remove_mark, fire_mark, open_brace, close_brace, open_parenthesis, close_parenthesis, semicolon}
+use Rattle.hp_model.specs.NotationTokens.{equal_sign, minus_sign, Token, mark, word, quoted, number, string, Tokens, token, place, size}
 use Rattle.hp_model.specs.NotationTree as T
 use Rattle.hp_model.specs.NotationTree.{Node, Nodes, no_nodes, node, form, Phrase}
 use Rattle.hp_model.specs.NotationPhrases.{is_mark, is_word, begins, past, passed, name, listed}

@@ -11,7 +11,13 @@ use Rattle.hp_model.specs.Parts.{name_of}
 use Rattle.hp_model.specs.Decode.{Root, root_of}
 use Rattle.hp_model.specs.NotationScripts.{has_let}
 use Rattle.hp_model.specs.NotationForms as F
-use Rattle.hp_model.specs.NotationForms.{Expression, Operator, either, both, equal, unequal, less, at_most, greater, at_least, plus, minus, times, quotient, remainder, operator_mark, operation, inverted, negated, field_of, key_of, value, now, image_field, new_image, old_image, key_in, time_of, argument, occurrence_count, Event, on_change, creation, change, deletion, on_signal, on_commit, at_moment, every_moment, or_event, then_event, closure_event, Rows, Fold, total, least, greatest, Aggregate, count_of, fold_of, next_key, plain, Query, some_rows, no_rows, named_value, Assignment, Statement, Setting, create, update, set_object, delete, signal, emit, when, each, for_answer, with_object, with_value, subtransaction, abort, veto, veto_with, RuleOperation, install, enable, disable, remove, fire, on_rule, Body, empty, ◌then◌, Field, Class, Rule, Item, transaction, clock, Script}
+use Rattle.hp_model.specs.NotationForms.{Expression, Operator, either, both, equal, unequal, less, at_most, greater, at_least, plus, minus, times, quotient, remainder}
+use Rattle.hp_model.specs.NotationForms.{operator_mark, operation, inverted, negated, field_of, key_of, value, now, image_field, new_image, old_image, key_in, time_of, argument}
+use Rattle.hp_model.specs.NotationForms.{occurrence_count, Event, on_change, creation, change, deletion, on_signal, on_commit, at_moment, every_moment, or_event, then_event}
+use Rattle.hp_model.specs.NotationForms.{closure_event, Rows, Fold, total, least, greatest, Aggregate, count_of, fold_of, next_key, plain, Query, some_rows, no_rows, named_value}
+use Rattle.hp_model.specs.NotationForms.{Assignment, Statement, Setting, create, update, set_object, delete, signal, emit, when, each, for_answer, with_object, with_value}
+use Rattle.hp_model.specs.NotationForms.{subtransaction, abort, veto, veto_with, RuleOperation, install, enable, disable, remove, fire, on_rule, Body, empty, ◌then◌, Field, Class}
+use Rattle.hp_model.specs.NotationForms.{Rule, Item, transaction, clock, Script}
 use Rattle.hp_model.specs.NotationTokens.{spelling}
 use Rattle.hp_model.specs.NotationPrint.{print_script, print_item}
 
@@ -67,7 +73,8 @@ expression_of_none word = beside word ((codes "now", now) ∷ (codes "count", oc
 
 abbrev pub expressions_of_one : (operand : Data → Option Expression) → Data → Table Expression
 expressions_of_one operand a =
-    (codes "not", λ _. of_one inverted (operand a)) ∷ (codes "neg", λ _. of_one negated (operand a)) ∷ (codes "key", λ _. of_one key_of (name_of a)) ∷ (codes "value", λ _. of_one value (name_of a)) ∷ (codes "id", λ _. of_one key_in (natural_of a)) ∷ (codes "time", λ _. of_one time_of (natural_of a)) ∷ []
+    (codes "not", λ _. of_one inverted (operand a)) ∷ (codes "neg", λ _. of_one negated (operand a)) ∷ (codes "key", λ _. of_one key_of (name_of a)) ∷
+    (codes "value", λ _. of_one value (name_of a)) ∷ (codes "id", λ _. of_one key_in (natural_of a)) ∷ (codes "time", λ _. of_one time_of (natural_of a)) ∷ []
 
 -- the expression of a word and a part, which `operand` reads where it is an expression
 abbrev pub expression_of_one : (operand : Data → Option Expression) → List ℕ → Data → Option Expression
@@ -75,7 +82,8 @@ expression_of_one operand word a = chosen (beside word (expressions_of_one opera
 
 abbrev pub expressions_of_two : Data → Data → Table Expression
 expressions_of_two a b =
-    (codes "of", λ _. of_two field_of (name_of a) (name_of b)) ∷ (codes "new", λ _. of_two (image_field new_image) (natural_of a) (name_of b)) ∷ (codes "old", λ _. of_two (image_field old_image) (natural_of a) (name_of b)) ∷ (codes "arg", λ _. of_two argument (natural_of a) (natural_of b)) ∷ []
+    (codes "of", λ _. of_two field_of (name_of a) (name_of b)) ∷ (codes "new", λ _. of_two (image_field new_image) (natural_of a) (name_of b)) ∷
+    (codes "old", λ _. of_two (image_field old_image) (natural_of a) (name_of b)) ∷ (codes "arg", λ _. of_two argument (natural_of a) (natural_of b)) ∷ []
 
 abbrev pub expression_of_two : (operand : Data → Option Expression) → List ℕ → Data → Data → Option Expression
 expression_of_two operand word a b =
@@ -106,14 +114,16 @@ any_expression = expression_of 32
 
 abbrev pub events_of_one : Data → Table Event
 events_of_one a =
-    (codes "create", λ _. of_one (on_change creation) (name_of a)) ∷ (codes "update", λ _. of_one (on_change change) (name_of a)) ∷ (codes "delete", λ _. of_one (on_change deletion) (name_of a)) ∷ (codes "signal", λ _. of_one on_signal (name_of a)) ∷ (codes "at", λ _. of_one at_moment (natural_of a)) ∷ []
+    (codes "create", λ _. of_one (on_change creation) (name_of a)) ∷ (codes "update", λ _. of_one (on_change change) (name_of a)) ∷
+    (codes "delete", λ _. of_one (on_change deletion) (name_of a)) ∷ (codes "signal", λ _. of_one on_signal (name_of a)) ∷ (codes "at", λ _. of_one at_moment (natural_of a)) ∷ []
 
 abbrev pub event_of_one : List ℕ → Data → Option Event
 event_of_one word a = chosen (beside word (events_of_one a))
 
 abbrev pub events_of_two : (part : Data → Option Event) → Data → Data → Table Event
 events_of_two part a b =
-    (codes "every", λ _. of_two every_moment (natural_of a) (natural_of b)) ∷ (codes "or", λ _. of_two or_event (part a) (part b)) ∷ (codes "seq", λ _. of_two then_event (part a) (part b)) ∷ (codes "closure", λ _. of_two closure_event (part a) (part b)) ∷ []
+    (codes "every", λ _. of_two every_moment (natural_of a) (natural_of b)) ∷ (codes "or", λ _. of_two or_event (part a) (part b)) ∷
+    (codes "seq", λ _. of_two then_event (part a) (part b)) ∷ (codes "closure", λ _. of_two closure_event (part a) (part b)) ∷ []
 
 abbrev pub event_of_two : (part : Data → Option Event) → List ℕ → Data → Data → Option Event
 event_of_two part word a b = chosen (beside word (events_of_two part a b))
@@ -196,7 +206,8 @@ statement_of_one word a =
 
 abbrev pub statements_of_two : (inner : Data → Option Body) → Data → Data → Table Statement
 statements_of_two inner a b =
-    (codes "delete", λ _. of_two delete (name_of a) (any_expression b)) ∷ (codes "signal", λ _. of_two signal (name_of a) (list_form any_expression b)) ∷ (codes "for", λ _. of_two for_answer (name_of a) (inner b)) ∷ (codes "sub", λ _. of_two subtransaction (inner a) (inner b)) ∷ []
+    (codes "delete", λ _. of_two delete (name_of a) (any_expression b)) ∷ (codes "signal", λ _. of_two signal (name_of a) (list_form any_expression b))
+    ∷ (codes "for", λ _. of_two for_answer (name_of a) (inner b)) ∷ (codes "sub", λ _. of_two subtransaction (inner a) (inner b)) ∷ []
 
 -- `inner` reads the bodies that nest a level deeper
 abbrev pub statement_of_two : (inner : Data → Option Body) → List ℕ → Data → Data → Option Statement
@@ -204,7 +215,9 @@ statement_of_two inner word a b = chosen (beside word (statements_of_two inner a
 
 abbrev pub statements_of_three : (inner : Data → Option Body) → Data → Data → Data → Table Statement
 statements_of_three inner a b c =
-    (codes "create", λ _. of_three (set_object create) (name_of a) (any_expression b) (list_form assignment_of c)) ∷ (codes "update", λ _. of_three (set_object update) (name_of a) (any_expression b) (list_form assignment_of c)) ∷ (codes "if", λ _. of_three when (any_expression a) (inner b) (inner c)) ∷ (codes "let", λ _. of_three with_value (name_of a) (aggregate_of b) (inner c)) ∷ []
+    (codes "create", λ _. of_three (set_object create) (name_of a) (any_expression b) (list_form assignment_of c)) ∷
+    (codes "update", λ _. of_three (set_object update) (name_of a) (any_expression b) (list_form assignment_of c)) ∷
+    (codes "if", λ _. of_three when (any_expression a) (inner b) (inner c)) ∷ (codes "let", λ _. of_three with_value (name_of a) (aggregate_of b) (inner c)) ∷ []
 
 abbrev pub statement_of_three : (inner : Data → Option Body) → List ℕ → Data → Data → Data → Option Statement
 statement_of_three inner word a b c = chosen (beside word (statements_of_three inner a b c))

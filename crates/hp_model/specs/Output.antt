@@ -2,7 +2,9 @@
 use Rattle.std.specs.Prelude.{Bool, true, false, List, [], ◌∷◌, ◌++◌, flat_map, Option, Some, None, Result, Ok, Err, codes, decimal}
 use Rattle.hp_model.specs.Cascade.{Script, evaluate}
 use Rattle.hp_model.specs.Report.{Bytes, line, report_text}
-use Rattle.hp_model.specs.Refusals.{Step, to_member, to_item, Path, Limit, size_limit, classes_limit, fields_limit, rules_limit, expression_limit, event_limit, nesting_limit, text_limit, depth_limit_word, arguments_limit, moments_limit, Refusal, unreadable, wrong_shape, bad_number, bad_name, over_limit, unknown_version}
+use Rattle.hp_model.specs.Refusals.{Step, to_member, to_item, Path, Limit, size_limit, classes_limit, fields_limit, rules_limit, expression_limit, event_limit, nesting_limit}
+use Rattle.hp_model.specs.Refusals.{text_limit, depth_limit_word, arguments_limit, moments_limit, Refusal, unreadable, wrong_shape, bad_number, bad_name, over_limit}
+use Rattle.hp_model.specs.Refusals.{unknown_version}
 use Rattle.hp_model.specs.Decode.{script_of}
 use Rattle.hp_model.specs.NotationPlaces.{Place}
 use Rattle.hp_model.specs.TextScripts.{PlacedRefusal, script_of_text}

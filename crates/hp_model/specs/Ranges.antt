@@ -3,7 +3,9 @@ use Rattle.std.specs.Prelude.{ℕ, pos, nat_lt, Bool, true, IsTrue, ◌&&◌, Li
 use Rattle.std.specs.List.{list_all, AllByRecursion, IsDistinct}
 use Rattle.hp_model.specs.Values.{ClassDef, fits_64, value_fits}
 use Rattle.hp_model.specs.Expressions.{Expression, constant, arithmetic, negated, inverted, both, either, compared}
-use Rattle.hp_model.specs.Rules.{Aggregate, count_over, sum_over, least_over, greatest_over, next_key, single, Entry, query_entry, no_entry, let_entry, Assignment, Statement, create, update, delete, signal, emit, when, each, for_answer, with_object, subtransaction, let_value, veto_with, Body, empty, ◌then◌, Rule, Library}
+use Rattle.hp_model.specs.Rules.{Aggregate, count_over, sum_over, least_over, greatest_over, next_key, single, Entry, query_entry, no_entry, let_entry, Assignment, Statement}
+use Rattle.hp_model.specs.Rules.{create, update, delete, signal, emit, when, each, for_answer, with_object, subtransaction, let_value, veto_with, Body, empty, ◌then◌, Rule}
+use Rattle.hp_model.specs.Rules.{Library}
 use Rattle.hp_model.specs.Scopes.{field_names}
 use Rattle.hp_model.specs.Cascade.{Unit, transaction, moment}
 

@@ -5,7 +5,8 @@ use Rattle.std.specs.Option.{option_or}
 use Rattle.serde_json.specs.Data.{Data}
 use Rattle.hp_model.specs.Values.{Name, ◌>>=◌}
 use Rattle.hp_model.specs.Expressions.{Expression}
-use Rattle.hp_model.specs.Rules.{Assignment, RuleOperation, install, enable, disable, remove, Statement, create, update, delete, signal, emit, when, each, for_answer, with_object, subtransaction, let_value, abort, veto, veto_with, on_rule, fire, Body, empty, ◌then◌}
+use Rattle.hp_model.specs.Rules.{Assignment, RuleOperation, install, enable, disable, remove, Statement, create, update, delete, signal, emit, when, each, for_answer, with_object}
+use Rattle.hp_model.specs.Rules.{subtransaction, let_value, abort, veto, veto_with, on_rule, fire, Body, empty, ◌then◌}
 use Rattle.hp_model.specs.Refusals.{Path, item_at, wrong_shape, bad_name, nesting_limit, arguments_limit, over_limit, Decoded, shaped}
 use Rattle.hp_model.specs.Json.{Form, form_of, pair_of, beside}
 use Rattle.hp_model.specs.Parts.{contains_name, name_at, new_name_at, place_at, list_at, short_list_at, read_each}

@@ -16,11 +16,13 @@ pub script_found : (text : List ℕ) (s t : T.Script) (path : Path) (p : Place) 
 script_found text s t path p read found again =
     ap (λ o. unwrap_or o (place_of text s.at)) found ∙ ap (λ (u : T.Script). script_place text u path) (same_read (read_text text) s t read again)
 
-pub script_lost : (text : List ℕ) (s t : T.Script) (path : Path) (p : Place) → read_text text ≡ Ok s → None ≡ place_at text s path → p ≡ place_of text s.at → read_text text ≡ Ok t → p ≡ script_place text t path
+pub script_lost : (text : List ℕ) (s t : T.Script) (path : Path) (p : Place) → read_text text ≡ Ok s → None ≡ place_at text s path → p ≡ place_of text s.at
+    → read_text text ≡ Ok t → p ≡ script_place text t path
 script_lost text s t path p read lost is again =
     is ∙ ap (λ o. unwrap_or o (place_of text s.at)) lost ∙ ap (λ (u : T.Script). script_place text u path) (same_read (read_text text) s t read again)
 
-pub line_found : (text : List ℕ) (n m : T.Node) (path : Path) (p : Place) → read_text_line text ≡ Ok n → Some p ≡ option_map (place_of text) (offset_along path n) → read_text_line text ≡ Ok m → p ≡ line_place text m path
+pub line_found : (text : List ℕ) (n m : T.Node) (path : Path) (p : Place) → read_text_line text ≡ Ok n → Some p ≡ option_map (place_of text) (offset_along path n)
+    → read_text_line text ≡ Ok m → p ≡ line_place text m path
 line_found text n m path p read found again =
     ap (λ o. unwrap_or o (place_of text (T.offset n))) found ∙ ap (λ (u : T.Node). line_place text u path) (same_read (read_text_line text) n m read again)
 
@@ -42,5 +44,6 @@ refusal_place_in place unknown_version = refl
 pub placed_of : {A : Type 0} (place : Path → Place) (r : Decoded A) (x : A) → r ≡ Ok x → placed place r ≡ Ok x
 placed_of place r x read = ap (placed place) read
 
-pub placed_refused : {A : Type 0} (place : Path → Place) (r : Decoded A) (e : Refusal) (spot : Option Place) → r ≡ Err e → spot ≡ refusal_place place e → placed place r ≡ Err (record { refusal = e; place = spot })
+pub placed_refused : {A : Type 0} (place : Path → Place) (r : Decoded A) (e : Refusal) (spot : Option Place) → r ≡ Err e → spot ≡ refusal_place place e
+    → placed place r ≡ Err (record { refusal = e; place = spot })
 placed_refused place r e spot read is = ap (placed place) read ∙ ap (λ o. Err (record { refusal = e; place = o })) (sym is)

@@ -19,9 +19,11 @@ pub adds_status : {old new : Seeing} (n : ℕ) → new ≡ record old { reads = 
 adds_status n is = adds_more (λ r. inl) (adds_read (rule_cell n) is)
 
 -- and then its detector
-pub adds_detector : {old new : Seeing} {after : List Read} (n : ℕ) → new ≡ record old { reads = read_cell old (rule_cell n) } → AddsReads (IsReadOf (detector_cell n)) new.reads after → AddsReads (IsReadOfRule n) old.reads after
+pub adds_detector : {old new : Seeing} {after : List Read} (n : ℕ) → new ≡ record old { reads = read_cell old (rule_cell n) } → AddsReads (IsReadOf (detector_cell n)) new.reads after
+    → AddsReads (IsReadOfRule n) old.reads after
 adds_detector n is more = adds_then (adds_status n is) (adds_more (λ r. inr) more)
 
 -- what is read of a mentioned rule
-pub adds_mentioned : (library : Library) (p : Primitive) (n : ℕ) {first second third : List Read} → is_mentioned library.rules p n ≡ true → AddsReads (IsReadOfMentioned library p) first second → AddsReads (IsReadOfRule n) second third → AddsReads (IsReadOfMentioned library p) first third
+pub adds_mentioned : (library : Library) (p : Primitive) (n : ℕ) {first second third : List Read} → is_mentioned library.rules p n ≡ true
+    → AddsReads (IsReadOfMentioned library p) first second → AddsReads (IsReadOfRule n) second third → AddsReads (IsReadOfMentioned library p) first third
 adds_mentioned library p n mentioned so_far more = adds_then so_far (adds_more (λ r is. record { rule = n; mentioned = mentioned; reads = is }) more)

@@ -45,7 +45,8 @@ made_more f fs given pre v is =
     ∙ onto_push pre (f.name, v) (made_row fs given)
 
 -- a row with one field more
-pub row_of_push : (fs : List Field) (vs : List RustValue) (f : Field) (v : RustValue) → length vs ≡ length fs → row_of (fs ++ f ∷ []) (vs ++ v ∷ []) ≡ row_of fs vs ++ (string_bytes f.name, value v) ∷ []
+pub row_of_push : (fs : List Field) (vs : List RustValue) (f : Field) (v : RustValue) → length vs ≡ length fs
+    → row_of (fs ++ f ∷ []) (vs ++ v ∷ []) ≡ row_of fs vs ++ (string_bytes f.name, value v) ∷ []
 row_of_push [] [] f v same = refl
 row_of_push [] (w ∷ vs) f v same = cc
 row_of_push (g ∷ fs) [] f v same = cc

@@ -1,5 +1,6 @@
 -- What notifying rules of an occurrence gives, on a view.
-use Rattle.std.proofs.Common.{arith, ◌≡◌, refl, ap, ap₂, sym, ◌∙◌, subst, ℕ, ℤ, suc, ◌+◌, ◌<◌, ◌≤◌, true, false, cond, List, [], ◌∷◌, ◌++◌, map, filter, length, length-append, take, drop, get_or, append-nil, append_assoc, Option, Some, None}
+use Rattle.std.proofs.Common.{arith, ◌≡◌, refl, ap, ap₂, sym, ◌∙◌, subst, ℕ, ℤ, suc, ◌+◌, ◌<◌, ◌≤◌, true, false, cond, List, [], ◌∷◌, ◌++◌, map, filter, length, length-append}
+use Rattle.std.proofs.Common.{take, drop, get_or, append-nil, append_assoc, Option, Some, None}
 use Rattle.std.specs.Prelude.{◌==◌, ◌||◌, option_map, option_to_list, slice_get}
 use Rattle.std.specs.Option.{option_or}
 use Rattle.std.proofs.Math.Bool.{or-false}
@@ -95,7 +96,8 @@ module _ (library : Library) (p : Primitive) (n : ℕ) (rule : Rule) (at : rule_
         (λ base held. ap status_at (beside base (written v) steps (rule_cell n) out.status) ∙ shows base held);
   }
 
-  pub hears_stepped : (v z : Seeing) (o : Option Occurrence) (next : Knowledge) → is_pure rule.event ≡ false → OnlyReads v z → StepsOn rule.event p n z o next → NotifiedEnabled library p n v z o (Some next)
+  pub hears_stepped : (v z : Seeing) (o : Option Occurrence) (next : Knowledge) → is_pure rule.event ≡ false → OnlyReads v z → StepsOn rule.event p n z o next
+      → NotifiedEnabled library p n v z o (Some next)
   hears_stepped v z o next impure only stepped = record {
     extends = λ now depth ns reads before steps tasks apart out grows shows so_far.
         let s : StepsOn (rule_at library n).event p n z o next = subst (λ (r : Rule). StepsOn r.event p n z o next) (sym at) stepped in
@@ -144,11 +146,13 @@ module _ (library : Library) (now : ℕ) (p : Primitive) (n : ℕ) (v w : Seeing
       by None = refl
       by (Some x) = refl
 
-  pub tells_enabled : (z : Seeing) (d : ℕ) (o : Option Occurrence) (task : Option Task) (next : Option Knowledge) → s ≡ enabled → task ≡ option_map (condition_task n (rule_at library n).event_coupling now d) o
+  pub tells_enabled : (z : Seeing) (d : ℕ) (o : Option Occurrence) (task : Option Task) (next : Option Knowledge) → s ≡ enabled
+      → task ≡ option_map (condition_task n (rule_at library n).event_coupling now d) o
       → NotifiedEnabled library p n w z o next → Notified library now p n v z task next
   tells_enabled z d o task next is made notified = record {
     extends = λ depth ns before steps tasks apart out so_far.
-        subst (λ t. Heard (level_at library now depth) p (ns ++ n ∷ []) z.reads before (stacked (written z) (with_step steps n next)) (tasks ++ option_to_list t)) (sym (task_then (rule_at library n) d depth o task made))
+        subst (λ t. Heard (level_at library now depth) p (ns ++ n ∷ []) z.reads before (stacked (written z) (with_step steps n next)) (tasks ++ option_to_list t))
+        (sym (task_then (rule_at library n) d depth o task made))
         (notified.extends now depth ns v.reads before steps tasks apart out (grows_only only) (λ base held. shows base held ∙ is) (before_read steps so_far));
   }
 
@@ -211,8 +215,10 @@ module _ (library : Library) (p : Primitive) (ns : List ℕ) where
   mentioned_among i = filter (is_mentioned library.rules p) (take i ns)
 
   module _ (now : ℕ) (all : filter (is_mentioned library.rules p) ns ≡ mentioning library p) where
-    pub told_listed : (i n : ℕ) {v w z : Seeing} {steps : Changes} {tasks : List Task} {task : Option Task} {next : Option Knowledge} → i < length ns → n ≡ get_or ns i 0 → is_mentioned library.rules p n ≡ true
-        → HaveHeard library now p (mentioned_among i) v w steps tasks → Notified library now p n w z task next → HaveHeard library now p (mentioned_among (i + 1)) v z (with_step steps n next) (tasks ++ option_to_list task)
+    pub told_listed : (i n : ℕ) {v w z : Seeing} {steps : Changes} {tasks : List Task} {task : Option Task} {next : Option Knowledge} → i < length ns
+        → n ≡ get_or ns i 0 → is_mentioned library.rules p n ≡ true
+        → HaveHeard library now p (mentioned_among i) v w steps tasks → Notified library now p n w z task next
+        → HaveHeard library now p (mentioned_among (i + 1)) v z (with_step steps n next) (tasks ++ option_to_list task)
     told_listed i n {v} {w} {z} {steps} {tasks} {task} {next} below is mentioned so_far notified =
         subst (λ ms. HaveHeard library now p ms v z (with_step steps n next) (tasks ++ option_to_list task)) (sym one_more)
         (more_heard library p now (mentioned_among i) n (apart_before library p (mentioned_among i) n rest (sym split ∙ all)) so_far notified)
@@ -234,7 +240,8 @@ module _ (library : Library) (p : Primitive) (ns : List ℕ) where
             ∙ append_assoc (mentioned_among i) (n ∷ []) rest
 
     -- the steps of all of them are written
-    pub all_listed : (i : ℕ) {v w z : Seeing} {steps : Entries} {tasks : List Task} → length ns ≤ i → HaveHeard library now p (mentioned_among i) v w (changes steps) tasks → TakesIn w z steps → AllNotified library now p v z tasks
+    pub all_listed : (i : ℕ) {v w z : Seeing} {steps : Entries} {tasks : List Task} → length ns ≤ i → HaveHeard library now p (mentioned_among i) v w (changes steps) tasks
+        → TakesIn w z steps → AllNotified library now p v z tasks
     all_listed i {v} {w} {z} {steps} {tasks} past so_far takes = record {
       heard = λ depth.
           subst (λ reads. Faithful library (λ S. triggered (level_at library now depth) (extended p S)) (extended p) reads (written v) (written z) (map (at_depth (suc depth)) tasks)) (sym takes.reads)
@@ -258,4 +265,5 @@ tasks_more (u ∷ ts) t = ap (λ us. task_of u ∷ us) (tasks_more ts t)
 -- tasks that stand at a depth already
 pub same_depth : (d : ℕ) (ts : List Task) → AreAt d ts → map (at_depth d) ts ≡ ts
 same_depth d [] at = refl
-same_depth d (t ∷ ts) at = ap (λ (k : ℕ). record { rule = t.rule; step = t.step; place = t.place; depth = k; now = t.now; occurrence = t.occurrence } ∷ map (at_depth d) ts) (sym at.0) ∙ ap (λ us. t ∷ us) (same_depth d ts at.1)
+same_depth d (t ∷ ts) at = ap (λ (k : ℕ). record { rule = t.rule; step = t.step; place = t.place; depth = k; now = t.now; occurrence = t.occurrence } ∷ map (at_depth d) ts) (sym at.0)
+    ∙ ap (λ us. t ∷ us) (same_depth d ts at.1)

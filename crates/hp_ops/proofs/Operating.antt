@@ -44,7 +44,8 @@ create_refused v w class key new found there only finds library =
     from_before only (faithful_create_exists class key new old.0 (subst (λ o. Finds library (λ S. find_object S.objects class key) w.reads (written w) o) old.1 (finds library)))
 
 pub create_made : (v w z : Seeing) (class : ℕ) (key : ℤ) (new : Row) (found : Option Row) → is_some found ≡ false → OnlyReads v w → ObjectFound class key w found
-    → Writes w z (object_cell class key) (Some (row_value new)) → (library : Library) → FaithfulOperation library (create_object class key new) z.reads (written v) (written z) (Ok (created class key new))
+    → Writes w z (object_cell class key) (Some (row_value new)) → (library : Library)
+    → FaithfulOperation library (create_object class key new) z.reads (written v) (written z) (Ok (created class key new))
 create_made v w z class key new found apart only finds writes library =
     with_reads writes.reads (from_before only
     (faithful_create class key new (subst (λ o. Finds library (λ S. find_object S.objects class key) w.reads (written w) o) (none_there found apart) (finds library)) writes.changes))

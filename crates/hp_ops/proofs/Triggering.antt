@@ -46,7 +46,8 @@ some_seen f (x ∷ xs) some e = cc
 module _ (library : Library) (now depth : ℕ) (p : Primitive) (v w : Seeing) (tasks : List Task) (all : AllNotified library now p v w tasks) where
   pub triggers_none : tasks ≡ [] → IsTriggered library now depth p v w tasks
   triggers_none none = record {
-    heard = subst (Faithful library (λ S. triggered (level_at library now depth) (extended p S)) (extended p) w.reads (written v) (written w)) (ap (map (at_depth (suc depth))) none ∙ sym none) (all.heard depth);
+    heard = subst (Faithful library (λ S. triggered (level_at library now depth) (extended p S)) (extended p) w.reads (written v) (written w))
+        (ap (map (at_depth (suc depth))) none ∙ sym none) (all.heard depth);
     at = subst (AreAt (suc depth)) (sym none) tt;
     within = λ t ts is. absurd (apart t ts (sym none ∙ is));
   }

@@ -33,20 +33,23 @@ pub shown_now : {v w : Seeing} {cell : Cell} → OnlyReads v w → Shows w cell 
 shown_now {v} {w} {cell} on shows base held = shows.everywhere base held ∙ (λ i. over (cells_in (sym on.base i)) (changes (sym on.writes i)) cell)
 
 -- what is found of an object
-pub object_found : (library : Library) (class : ℕ) (key : ℤ) (v w : Seeing) (value : Option CellValue) (row : Option Row) → OnlyReads v w → Shows w (object_cell class key) (now_in v (object_cell class key))
+pub object_found : (library : Library) (class : ℕ) (key : ℤ) (v w : Seeing) (value : Option CellValue) (row : Option Row) → OnlyReads v w
+    → Shows w (object_cell class key) (now_in v (object_cell class key))
     → value ≡ now_in w (object_cell class key) → row ≡ row_at value → Finds library (λ S. find_object S.objects class key) w.reads (written w) row
 object_found library class key v w value row on shows is found =
     subst (λ r. Finds library (λ S. find_object S.objects class key) w.reads (written w) r) (sym (found ∙ ap row_at is))
     (finds_object library class key (shown_now on shows))
 
 -- the same of a rule's status
-pub status_found : (library : Library) (n : ℕ) (v w : Seeing) (value : Option CellValue) (s : Status) → OnlyReads v w → Shows w (rule_cell n) (now_in v (rule_cell n)) → value ≡ now_in w (rule_cell n) → s ≡ status_at value
+pub status_found : (library : Library) (n : ℕ) (v w : Seeing) (value : Option CellValue) (s : Status) → OnlyReads v w → Shows w (rule_cell n) (now_in v (rule_cell n))
+    → value ≡ now_in w (rule_cell n) → s ≡ status_at value
     → Finds library (λ S. (rule_state S n).status) w.reads (written w) s
 status_found library n v w value s on shows is status =
     subst (λ t. Finds library (λ S. (rule_state S n).status) w.reads (written w) t) (sym (status ∙ ap status_at is))
     (finds_status library n (shown_now on shows))
 
-pub status_shown : (n : ℕ) (v w : Seeing) (value : Option CellValue) (s : Status) → OnlyReads v w → Shows w (rule_cell n) (now_in v (rule_cell n)) → value ≡ now_in w (rule_cell n) → s ≡ status_at value
+pub status_shown : (n : ℕ) (v w : Seeing) (value : Option CellValue) (s : Status) → OnlyReads v w → Shows w (rule_cell n) (now_in v (rule_cell n))
+    → value ≡ now_in w (rule_cell n) → s ≡ status_at value
     → (base : Cells) → Holds base w.reads → status_at (over base (written w) (rule_cell n)) ≡ s
 status_shown n v w value s on shows is status base held = ap status_at (shown_now on shows base held ∙ sym is) ∙ sym status
 

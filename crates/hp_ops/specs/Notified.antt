@@ -57,7 +57,8 @@ pub record NotifiedEnabled (library : Library) (p : Primitive) (n : ℕ) (old ne
   pub extends : (now depth : ℕ) (ns : List ℕ) (reads : List Read) (before steps : Changes) (tasks : List Task) → is_in n ns ≡ false → LeaveOut n steps → Grows reads old.reads
       → ((base : Cells) → Holds base old.reads → status_at (over base (written old) (rule_cell n)) ≡ enabled)
       → Heard (level_at library now depth) p ns reads before (stacked (written old) steps) tasks
-      → Heard (level_at library now depth) p (ns ++ n ∷ []) new.reads before (stacked (written new) (with_step steps n next)) (tasks ++ option_to_list (option_map (triggered_by (level_at library now depth) n (rule_at library n)) o))
+      → Heard (level_at library now depth) p (ns ++ n ∷ []) new.reads before (stacked (written new) (with_step steps n next))
+      (tasks ++ option_to_list (option_map (triggered_by (level_at library now depth) n (rule_at library n)) o))
 
 -- this rule has been notified, after any others, and these are its task, in a transaction of any depth, and its step
 pub record Notified (library : Library) (now : ℕ) (p : Primitive) (n : ℕ) (old new : Seeing) (task : Option Task) (next : Option Knowledge) : Type 0 where

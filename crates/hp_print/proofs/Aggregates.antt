@@ -7,7 +7,8 @@ use Rattle.serde_json.specs.Find.{as_str}
 use Rattle.hp_model.specs.Json.{Form, form_of}
 use Rattle.hp_model.specs.Parts.{name_of}
 use Rattle.hp_model.specs.NotationForms as F
-use Rattle.hp_model.specs.NotationValues.{of_one, of_two, expression_of, expression_of_form, any_expression, rows_of, fold_named, aggregate_of_form, aggregate_of, query_of_list, query_unless_let, is_let_form}
+use Rattle.hp_model.specs.NotationValues.{of_one, of_two, expression_of, expression_of_form, any_expression, rows_of, fold_named, aggregate_of_form, aggregate_of, query_of_list}
+use Rattle.hp_model.specs.NotationValues.{query_unless_let, is_let_form}
 use Rattle.hp_print.specs.Rows.{query_in, no_rows_of}
 use Rattle.hp_print.proofs.Levels.{or_none}
 use Rattle.hp_print.proofs.Readings.{expression_in_form}

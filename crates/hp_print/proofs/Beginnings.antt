@@ -1,5 +1,6 @@
 -- How tightly the expression of a value holds together, and what it begins with.
-use Rattle.std.proofs.Common.{◌≡◌, refl, sym, ap, ◌∙◌, subst, ℕ, zero, suc, ◌<◌, ◌≤◌, ℤ, pos, negsuc, codes, Bool, true, false, List, [], ◌∷◌, length, map, get_or, Option, Some, None, option_map, arith}
+use Rattle.std.proofs.Common.{◌≡◌, refl, sym, ap, ◌∙◌, subst, ℕ, zero, suc, ◌<◌, ◌≤◌, ℤ, pos, negsuc, codes, Bool, true, false, List, [], ◌∷◌, length, map, get_or, Option, Some}
+use Rattle.std.proofs.Common.{None, option_map, arith}
 use Rattle.std.specs.Prelude.{IfSome, if◌then◌else◌, nat_lt, option_and_then}
 use Rattle.std.specs.Str.{is_utf8}
 use Rattle.std.proofs.lemmas.Bool.{lt-ltb, le-ltb}
@@ -22,7 +23,8 @@ use Rattle.hp_print.proofs.Readings.{expression_in_form, no_expression}
 
 -- ---- levels of values
 
-pub level_in_form : (n : ℕ) (d : Data) (f : Form) (r : ℕ) → form_of d ≡ Some f → ((operand : Data → Option Expression) → IfSome (expression_of_form operand f.word f.parts) (λ e. r ≡ expression_level e))
+pub level_in_form : (n : ℕ) (d : Data) (f : Form) (r : ℕ) → form_of d ≡ Some f
+    → ((operand : Data → Option Expression) → IfSome (expression_of_form operand f.word f.parts) (λ e. r ≡ expression_level e))
     → IfSome (expression_of n d) (λ e. r ≡ expression_level e)
 level_in_form zero d f r is level = subst (λ o. IfSome o (λ e. r ≡ expression_level e)) (sym (no_expression d)) tt
 level_in_form (suc n) d f r is level =

@@ -14,5 +14,6 @@ pub onward : {A E B : Type 0} (r : Result B E) (old new : Writer) (put : A → P
 onward r old new put a b is wrote = then_ok r (λ writes rest. ap (λ o. text_with old (step put o rest)) is ∙ writes rest) wrote
 
 -- what was written, where it is something else
-pub instead : {E B : Type 0} (r : Result B E) (old new : Writer) (a b : Option Pieces → Option Pieces) → ((rest : Option Pieces) → a rest ≡ b rest) → OnOk r (Writes old new b) → OnOk r (Writes old new a)
+pub instead : {E B : Type 0} (r : Result B E) (old new : Writer) (a b : Option Pieces → Option Pieces) → ((rest : Option Pieces) → a rest ≡ b rest)
+    → OnOk r (Writes old new b) → OnOk r (Writes old new a)
 instead r old new a b is wrote = then_ok r (λ writes rest. ap (text_with old) (is rest) ∙ writes rest) wrote

@@ -34,7 +34,8 @@ at_moment_step gap (Some t) None = refl
 at_moment_step gap (Some t) (Some k) = refl
 
 pub every_moment_step : (gap : Gap) (t : Option ℕ) (n : Option ℕ) (rest : Option Pieces)
-    → step (λ e. event_pieces e gap) (of_two F.every_moment t n) rest ≡ option_map (free gap (codes "every")) (step (natural space) n (option_map (free space (codes "from")) (step (natural space) t rest)))
+    → step (λ e. event_pieces e gap) (of_two F.every_moment t n) rest ≡ option_map (free gap (codes "every"))
+    (step (natural space) n (option_map (free space (codes "from")) (step (natural space) t rest)))
 every_moment_step gap None None rest = refl
 every_moment_step gap None (Some n) rest = refl
 every_moment_step gap (Some t) None rest = refl
@@ -63,7 +64,9 @@ joined_step gap joint m a b is rest =
     ∙ ap (λ n. step (λ e. enclosed_if (other_joint joint e) (event_pieces e) gap) a (option_map (sign space n) (step (λ e. enclosed_if (is_or e || is_then e) (event_pieces e) space) b rest))) (sym is)
 
 pub closure_step : (gap : Gap) (a : Option F.Event) (b : Option F.Event) (rest : Option Pieces)
-    → step (λ e. event_pieces e gap) (of_two F.closure_event a b) rest ≡ option_map (free gap (codes "closure")) (option_map (sign tight open_parenthesis) (step (λ e. event_pieces e tight) a (option_map (sign space until_mark) (step (λ e. event_pieces e space) b (option_map (sign tight close_parenthesis) rest)))))
+    → step (λ e. event_pieces e gap) (of_two F.closure_event a b) rest ≡ option_map (free gap (codes "closure"))
+    (option_map (sign tight open_parenthesis)
+    (step (λ e. event_pieces e tight) a (option_map (sign space until_mark) (step (λ e. event_pieces e space) b (option_map (sign tight close_parenthesis) rest)))))
 closure_step gap None None rest = refl
 closure_step gap None (Some b) rest = refl
 closure_step gap (Some a) None rest = refl

@@ -11,7 +11,8 @@ use Rattle.hp_model.specs.NotationForms.{Expression, operator_mark}
 use Rattle.hp_model.specs.NotationExpressions.{level_of}
 use Rattle.hp_model.specs.NotationTokens.{spelling}
 use Rattle.hp_model.specs.NotationPrint.{expression_level}
-use Rattle.hp_model.specs.NotationValues.{Table, chosen, of_one, of_two, natural_of, with_word, all_operators, operator_of, expression_of_none, expressions_of_one, expression_of_one, expressions_of_two, expression_of_two, expression_of_form}
+use Rattle.hp_model.specs.NotationValues.{Table, chosen, of_one, of_two, natural_of, with_word, all_operators, operator_of, expression_of_none, expressions_of_one}
+use Rattle.hp_model.specs.NotationValues.{expression_of_one, expressions_of_two, expression_of_two, expression_of_form}
 
 pub if_one : {A B : Type 0} (P : B → Type 0) (f : A → B) → ((x : A) → P (f x)) → (o : Option A) → IfSome (of_one f o) P
 if_one P f holds None = tt
@@ -111,7 +112,8 @@ pub level_one : (operand : Data → Option Expression) (word : List ℕ) (a : Da
 level_one operand word a inverted negated =
     rw (inverted, negated)
     (if_chosen (Has 8) word
-    ((codes "key", λ _. of_one F.key_of (name_of a)) ∷ (codes "value", λ _. of_one F.value (name_of a)) ∷ (codes "id", λ _. of_one F.key_in (natural_of a)) ∷ (codes "time", λ _. of_one F.time_of (natural_of a)) ∷ [])
+    ((codes "key", λ _. of_one F.key_of (name_of a)) ∷ (codes "value", λ _. of_one F.value (name_of a)) ∷ (codes "id", λ _. of_one F.key_in (natural_of a))
+    ∷ (codes "time", λ _. of_one F.time_of (natural_of a)) ∷ [])
     (if_one (Has 8) F.key_of (λ x. refl) _, (if_one (Has 8) F.value (λ x. refl) _, (if_one (Has 8) F.key_in (λ x. refl) _, (if_one (Has 8) F.time_of (λ x. refl) _, tt)))))
 
 pub level_operation : (operand : Data → Option Expression) (word : List ℕ) (op : F.Operator) (a b : Data) → operator_of word ≡ Some op
@@ -124,8 +126,13 @@ pub level_other : (operand : Data → Option Expression) (word : List ℕ) (a b 
     → IfSome (expression_of_two operand word a b) (λ e. 8 ≡ expression_level e)
 level_other operand word a b is =
     subst (λ o. IfSome o (Has 8)) (sym (other_form operand word a b is))
-    (if_chosen (Has 8) word (expressions_of_two a b)
-    (if_two (Has 8) F.field_of (λ x y. refl) _ _, (if_two (Has 8) (F.image_field F.new_image) (λ x y. refl) _ _, (if_two (Has 8) (F.image_field F.old_image) (λ x y. refl) _ _, (if_two (Has 8) F.argument (λ x y. refl) _ _, tt)))))
+    (if_chosen (Has 8) word (expressions_of_two a b) (
+      if_two (Has 8) F.field_of (λ x y. refl) _ _,
+      (
+        if_two (Has 8) (F.image_field F.new_image) (λ x y. refl) _ _,
+        (if_two (Has 8) (F.image_field F.old_image) (λ x y. refl) _ _, (if_two (Has 8) F.argument (λ x y. refl) _ _, tt)),
+      ),
+    ))
 
 -- ---- forms are compound
 
@@ -158,13 +165,23 @@ compound_alone word = go (bytes_eq word (codes "now")) (bytes_eq word (codes "co
 pub compound_form : (operand : Data → Option Expression) (word : List ℕ) (ps : List Data) → IfSome (expression_of_form operand word ps) IsCompound
 compound_form operand word [] = compound_alone word
 compound_form operand word (a ∷ []) =
-    if_chosen IsCompound word (expressions_of_one operand a)
-    (if_one IsCompound F.inverted (λ x. tt) _, (if_one IsCompound F.negated (λ x. tt) _, (if_one IsCompound F.key_of (λ x. tt) _, (if_one IsCompound F.value (λ x. tt) _, (if_one IsCompound F.key_in (λ x. tt) _, (if_one IsCompound F.time_of (λ x. tt) _, tt))))))
+    if_chosen IsCompound word (expressions_of_one operand a) (
+      if_one IsCompound F.inverted (λ x. tt) _,
+      (
+        if_one IsCompound F.negated (λ x. tt) _,
+        (if_one IsCompound F.key_of (λ x. tt) _, (if_one IsCompound F.value (λ x. tt) _, (if_one IsCompound F.key_in (λ x. tt) _, (if_one IsCompound F.time_of (λ x. tt) _, tt)))),
+      ),
+    )
 compound_form operand word (a ∷ b ∷ []) =
     if_or IsCompound (option_and_then (λ op. of_two (F.operation op) (operand a) (operand b)) (operator_of word)) _
     (if_then IsCompound (λ op. of_two (F.operation op) (operand a) (operand b)) (λ op. if_two IsCompound (F.operation op) (λ x y. tt) _ _) (operator_of word))
-    (if_chosen IsCompound word (expressions_of_two a b)
-    (if_two IsCompound F.field_of (λ x y. tt) _ _, (if_two IsCompound (F.image_field F.new_image) (λ x y. tt) _ _, (if_two IsCompound (F.image_field F.old_image) (λ x y. tt) _ _, (if_two IsCompound F.argument (λ x y. tt) _ _, tt)))))
+    (if_chosen IsCompound word (expressions_of_two a b) (
+      if_two IsCompound F.field_of (λ x y. tt) _ _,
+      (
+        if_two IsCompound (F.image_field F.new_image) (λ x y. tt) _ _,
+        (if_two IsCompound (F.image_field F.old_image) (λ x y. tt) _ _, (if_two IsCompound F.argument (λ x y. tt) _ _, tt)),
+      ),
+    ))
 compound_form operand word (a ∷ b ∷ c ∷ ps) = tt
 
 -- ---- levels of forms whose parts are values of a list

@@ -4,7 +4,9 @@ use Rattle.std.proofs.lemmas.List.{drop_more}
 use Rattle.serde_json.specs.Data.{Data}
 use Rattle.hp_model.specs.NotationTokens.{comma, set_mark, open_parenthesis, close_parenthesis, close_brace}
 use Rattle.hp_model.specs.NotationForms as F
-use Rattle.hp_model.specs.NotationPrint.{tight, space, Pieces, sign, each_part, more_parts, expression_pieces, assignment_pieces, assignments_pieces, argument_pieces, arguments_pieces, field_pieces, fields_pieces, class_pieces, later_class_pieces, classes_pieces, paragraph, statement_pieces, statements_pieces}
+use Rattle.hp_model.specs.NotationPrint.{tight, space, Pieces, sign, each_part, more_parts, expression_pieces, assignment_pieces, assignments_pieces, argument_pieces}
+use Rattle.hp_model.specs.NotationPrint.{arguments_pieces, field_pieces, fields_pieces, class_pieces, later_class_pieces, classes_pieces, paragraph, statement_pieces}
+use Rattle.hp_model.specs.NotationPrint.{statements_pieces}
 use Rattle.hp_model.specs.Json.{list_of}
 use Rattle.hp_model.specs.NotationValues.{of_two, each_of, list_form, assignment_of, any_expression, field_form, class_form, body_in}
 use Rattle.hp_print.specs.declared.writer.Writer.{Writer}
@@ -76,11 +78,13 @@ assigned (Some x) None rest = refl
 assigned (Some x) (Some xs) None = refl
 assigned (Some x) (Some xs) (Some k) = refl
 
-pub assignments_step : (each : Data → Step) → ((e : Data) (r : Option Pieces) → each e r ≡ option_map (sign tight comma) (step assignment_pieces (assignment_of e) r)) → (d first : Data) (others : List Data) → list_of d ≡ Some (first ∷ others) → (rest : Option Pieces)
+pub assignments_step : (each : Data → Step) → ((e : Data) (r : Option Pieces) → each e r ≡ option_map (sign tight comma) (step assignment_pieces (assignment_of e) r))
+    → (d first : Data) (others : List Data) → list_of d ≡ Some (first ∷ others) → (rest : Option Pieces)
     → step assignments_pieces (list_form assignment_of d) rest
     ≡ option_map (sign space set_mark) (step assignment_pieces (assignment_of first) (steps each others rest))
 assignments_step each same d first others is rest =
-    rw (is, steps_same each (λ e r. option_map (sign tight comma) (step assignment_pieces (assignment_of e) r)) same others rest, comma_list assignment_pieces assignment_of others rest) (assigned (assignment_of first) (each_of assignment_of others) rest)
+    rw (is, steps_same each (λ e r. option_map (sign tight comma) (step assignment_pieces (assignment_of e) r)) same others rest, comma_list assignment_pieces assignment_of others rest)
+    (assigned (assignment_of first) (each_of assignment_of others) rest)
 
 argued : (x : Option F.Expression) (xs : Option (List F.Expression)) (rest : Option Pieces)
     → step arguments_pieces (of_two (λ y ys. y ∷ ys) x xs) rest
@@ -90,12 +94,17 @@ argued (Some x) None rest = refl
 argued (Some x) (Some xs) None = refl
 argued (Some x) (Some xs) (Some k) = refl
 
-pub arguments_step : (each : Data → Step) → ((e : Data) (r : Option Pieces) → each e r ≡ option_map (sign tight comma) (step argument_pieces (any_expression e) r)) → (d first : Data) (others : List Data) → list_of d ≡ Some (first ∷ others) → (rest : Option Pieces)
+pub arguments_step : (each : Data → Step) → ((e : Data) (r : Option Pieces) → each e r ≡ option_map (sign tight comma) (step argument_pieces (any_expression e) r))
+    → (d first : Data) (others : List Data) → list_of d ≡ Some (first ∷ others) → (rest : Option Pieces)
     → step arguments_pieces (list_form any_expression d) rest
     ≡ option_map (sign tight open_parenthesis) (step (λ e. expression_pieces e tight) (any_expression first)
     (steps each others (option_map (sign tight close_parenthesis) rest)))
 arguments_step each same d first others is rest =
-    rw (is, steps_same each (λ e r. option_map (sign tight comma) (step argument_pieces (any_expression e) r)) same others (option_map (sign tight close_parenthesis) rest), comma_list argument_pieces any_expression others (option_map (sign tight close_parenthesis) rest)) (argued (any_expression first) (each_of any_expression others) rest)
+    rw (
+      is,
+      steps_same each (λ e r. option_map (sign tight comma) (step argument_pieces (any_expression e) r)) same others (option_map (sign tight close_parenthesis) rest),
+      comma_list argument_pieces any_expression others (option_map (sign tight close_parenthesis) rest),
+    ) (argued (any_expression first) (each_of any_expression others) rest)
 
 fielded : (x : Option F.Field) (xs : Option (List F.Field)) (rest : Option Pieces)
     → step fields_pieces (of_two (λ y ys. y ∷ ys) x xs) rest ≡ step field_pieces x (step (more_parts field_pieces) xs (option_map (sign space close_brace) rest))
@@ -104,11 +113,16 @@ fielded (Some x) None rest = refl
 fielded (Some x) (Some xs) None = refl
 fielded (Some x) (Some xs) (Some k) = refl
 
-pub fields_step : (each : Data → Step) → ((e : Data) (r : Option Pieces) → each e r ≡ option_map (sign tight comma) (step field_pieces (field_form e) r)) → (d first : Data) (others : List Data) → list_of d ≡ Some (first ∷ others) → (rest : Option Pieces)
+pub fields_step : (each : Data → Step) → ((e : Data) (r : Option Pieces) → each e r ≡ option_map (sign tight comma) (step field_pieces (field_form e) r))
+    → (d first : Data) (others : List Data) → list_of d ≡ Some (first ∷ others) → (rest : Option Pieces)
     → step fields_pieces (list_form field_form d) rest
     ≡ step field_pieces (field_form first) (steps each others (option_map (sign space close_brace) rest))
 fields_step each same d first others is rest =
-    rw (is, steps_same each (λ e r. option_map (sign tight comma) (step field_pieces (field_form e) r)) same others (option_map (sign space close_brace) rest), comma_list field_pieces field_form others (option_map (sign space close_brace) rest)) (fielded (field_form first) (each_of field_form others) rest)
+    rw (
+      is,
+      steps_same each (λ e r. option_map (sign tight comma) (step field_pieces (field_form e) r)) same others (option_map (sign space close_brace) rest),
+      comma_list field_pieces field_form others (option_map (sign space close_brace) rest),
+    ) (fielded (field_form first) (each_of field_form others) rest)
 
 classed : (x : Option F.Class) (xs : Option (List F.Class)) (rest : Option Pieces)
     → step classes_pieces (of_two (λ y ys. y ∷ ys) x xs) rest ≡ step (λ c. class_pieces c paragraph) x (step (each_part later_class_pieces) xs rest)
@@ -117,10 +131,12 @@ classed (Some x) None rest = refl
 classed (Some x) (Some xs) None = refl
 classed (Some x) (Some xs) (Some k) = refl
 
-pub classes_step : (each : Data → Step) → ((e : Data) (r : Option Pieces) → each e r ≡ step later_class_pieces (class_form e) r) → (d first : Data) (others : List Data) → list_of d ≡ Some (first ∷ others) → (rest : Option Pieces)
+pub classes_step : (each : Data → Step) → ((e : Data) (r : Option Pieces) → each e r ≡ step later_class_pieces (class_form e) r) → (d first : Data) (others : List Data)
+    → list_of d ≡ Some (first ∷ others) → (rest : Option Pieces)
     → step classes_pieces (list_form class_form d) rest ≡ step (λ c. class_pieces c paragraph) (class_form first) (steps each others rest)
 classes_step each same d first others is rest =
-    rw (is, steps_same each (λ e. step later_class_pieces (class_form e)) same others rest, each_list later_class_pieces class_form others rest) (classed (class_form first) (each_of class_form others) rest)
+    rw (is, steps_same each (λ e. step later_class_pieces (class_form e)) same others rest, each_list later_class_pieces class_form others rest)
+    (classed (class_form first) (each_of class_form others) rest)
 
 drop_none : {V : Type 0} (vs : List V) (i : ℕ) → length vs ≤ i → drop i vs ≡ []
 drop_none [] zero below = refl

@@ -22,7 +22,8 @@ key_of_step gap (Some x) None = refl
 key_of_step gap (Some x) (Some k) = refl
 
 image_field_plain : (gap : Gap) (image : F.Image) (i : Option ℕ) (f : Option Name) (rest : Option Pieces)
-    → step (λ e. expression_pieces e gap) (of_two (F.image_field image) i f) rest ≡ option_map (sign gap (image_mark image)) (step (part_pieces) i (option_map (sign tight point) (step (name tight) f rest)))
+    → step (λ e. expression_pieces e gap) (of_two (F.image_field image) i f) rest ≡ option_map (sign gap (image_mark image))
+    (step (part_pieces) i (option_map (sign tight point) (step (name tight) f rest)))
 image_field_plain gap image None None rest = refl
 image_field_plain gap image None (Some f) rest = refl
 image_field_plain gap image (Some i) None rest = refl
@@ -31,7 +32,8 @@ image_field_plain gap image (Some i) (Some f) (Some k) = refl
 
 pub image_field_step : (gap : Gap) (image : F.Image) (m : Mark) → m ≡ image_mark image → (i : Option ℕ) (f : Option Name) (rest : Option Pieces)
     → step (λ e. expression_pieces e gap) (of_two (F.image_field image) i f) rest ≡ option_map (sign gap m) (step (part_pieces) i (option_map (sign tight point) (step (name tight) f rest)))
-image_field_step gap image m is i f rest = image_field_plain gap image i f rest ∙ ap (λ n. option_map (sign gap n) (step (part_pieces) i (option_map (sign tight point) (step (name tight) f rest)))) (sym is)
+image_field_step gap image m is i f rest = image_field_plain gap image i f rest
+    ∙ ap (λ n. option_map (sign gap n) (step (part_pieces) i (option_map (sign tight point) (step (name tight) f rest)))) (sym is)
 
 pub key_in_step : (gap : Gap) (i : Option ℕ) (rest : Option Pieces)
     → step (λ e. expression_pieces e gap) (of_one F.key_in i) rest ≡ option_map (sign gap event_mark) (step (part_pieces) i (option_map (sign tight point) (option_map (sign tight key_mark) rest)))
@@ -40,13 +42,16 @@ key_in_step gap (Some i) None = refl
 key_in_step gap (Some i) (Some k) = refl
 
 pub time_of_step : (gap : Gap) (i : Option ℕ) (rest : Option Pieces)
-    → step (λ e. expression_pieces e gap) (of_one F.time_of i) rest ≡ option_map (sign gap event_mark) (step (part_pieces) i (option_map (sign tight point) (option_map (free tight (codes "time")) rest)))
+    → step (λ e. expression_pieces e gap) (of_one F.time_of i) rest ≡ option_map (sign gap event_mark)
+    (step (part_pieces) i (option_map (sign tight point) (option_map (free tight (codes "time")) rest)))
 time_of_step gap None rest = refl
 time_of_step gap (Some i) None = refl
 time_of_step gap (Some i) (Some k) = refl
 
 pub argument_step : (gap : Gap) (i : Option ℕ) (j : Option ℕ) (rest : Option Pieces)
-    → step (λ e. expression_pieces e gap) (of_two F.argument i j) rest ≡ option_map (sign gap event_mark) (step (part_pieces) i (option_map (sign tight point) (option_map (free tight (codes "arg")) (option_map (sign tight open_parenthesis) (step (natural tight) j (option_map (sign tight close_parenthesis) rest))))))
+    → step (λ e. expression_pieces e gap) (of_two F.argument i j) rest ≡ option_map (sign gap event_mark)
+    (step (part_pieces) i (option_map (sign tight point)
+    (option_map (free tight (codes "arg")) (option_map (sign tight open_parenthesis) (step (natural tight) j (option_map (sign tight close_parenthesis) rest))))))
 argument_step gap None None rest = refl
 argument_step gap None (Some j) rest = refl
 argument_step gap (Some i) None rest = refl

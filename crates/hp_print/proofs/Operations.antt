@@ -17,7 +17,8 @@ none_beside : (word : List ℕ) (op : F.RuleOperation) (a : Data) → rule_opera
 none_beside word op a is =
     go (bytes_eq word (codes "install")) (bytes_eq word (codes "enable")) (bytes_eq word (codes "disable")) (bytes_eq word (codes "remove")) (bytes_eq word (codes "fire")) refl refl refl refl refl is
   where
-    go : (b1 b2 b3 b4 b5 : Bool) → bytes_eq word (codes "install") ≡ b1 → bytes_eq word (codes "enable") ≡ b2 → bytes_eq word (codes "disable") ≡ b3 → bytes_eq word (codes "remove") ≡ b4 → bytes_eq word (codes "fire") ≡ b5
+    go : (b1 b2 b3 b4 b5 : Bool) → bytes_eq word (codes "install") ≡ b1 → bytes_eq word (codes "enable") ≡ b2 → bytes_eq word (codes "disable") ≡ b3
+        → bytes_eq word (codes "remove") ≡ b4 → bytes_eq word (codes "fire") ≡ b5
         → (if b1 then Some F.install else (if b2 then Some F.enable else (if b3 then Some F.disable else (if b4 then Some F.remove else (if b5 then Some F.fire else None))))) ≡ Some op
         → chosen (beside word (statements_of_one a)) ≡ None
     go true b2 b3 b4 b5 e1 e2 e3 e4 e5 found = none_of_word word (codes "install") a ((bytes_decides word (codes "install")).0 e1) refl

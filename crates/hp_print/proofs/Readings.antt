@@ -1,5 +1,6 @@
 -- Which form a value is.
-use Rattle.std.proofs.Common.{◌≡◌, refl, sym, ap, ◌∙◌, subst, ℕ, zero, suc, ◌<◌, ◌≤◌, ℤ, pos, negsuc, Bool, true, false, List, [], ◌∷◌, length, map, take, drop, get_or, ◌-◌, Option, Some, None, option_map, arith, SFits, w64}
+use Rattle.std.proofs.Common.{◌≡◌, refl, sym, ap, ◌∙◌, subst, ℕ, zero, suc, ◌<◌, ◌≤◌, ℤ, pos, negsuc, Bool, true, false, List, [], ◌∷◌, length, map, take, drop, get_or, ◌-◌}
+use Rattle.std.proofs.Common.{Option, Some, None, option_map, arith, SFits, w64}
 use Rattle.std.proofs.lemmas.Bool.{lt-ltb}
 use Rattle.std.proofs.lemmas.List.{length-drop, take_all}
 use Rattle.std.specs.Prelude.{IfSome, if◌then◌else◌, ◌^◌, option_and_then}
@@ -126,7 +127,8 @@ not_true (suc n) (array ds) apart = go (form_of (array ds))
     all None is = tt
     all (Some e) is = kept e is
 
-    go : (o : Option Form) → IfSome (option_and_then (λ (f : Form). expression_of_form (expression_of n) f.word f.parts) o) (λ e. (k : Pieces) → predicate_pieces e k ≡ sign space where_mark (expression_pieces e space k))
+    go : (o : Option Form) → IfSome (option_and_then (λ (f : Form). expression_of_form (expression_of n) f.word f.parts) o) (λ e. (k : Pieces)
+        → predicate_pieces e k ≡ sign space where_mark (expression_pieces e space k))
     go None = tt
     go (Some f) = all (expression_of_form (expression_of n) f.word f.parts) (compound_form (expression_of n) f.word f.parts)
 
@@ -180,7 +182,8 @@ three_items f (x ∷ y ∷ z ∷ []) a b c least below first second third =
     ap (λ u. f u ∷ f y ∷ f z ∷ []) (sym first) ∙ ap (λ u. f a ∷ f u ∷ f z ∷ []) (sym second) ∙ ap (λ u. f a ∷ f b ∷ f u ∷ []) (sym third)
 three_items f (x ∷ y ∷ z ∷ u ∷ vs) a b c least below first second third = absurd (omega (arith, below))
 
-pub four_items : {V D : Type 0} (f : V → D) (vs : List V) (a b c d : V) → 4 ≤ length vs → length vs < 5 → a ≡ get_or vs 0 a → b ≡ get_or vs 1 b → c ≡ get_or vs 2 c → d ≡ get_or vs 3 d → map f vs ≡ f a ∷ f b ∷ f c ∷ f d ∷ []
+pub four_items : {V D : Type 0} (f : V → D) (vs : List V) (a b c d : V) → 4 ≤ length vs → length vs < 5 → a ≡ get_or vs 0 a → b ≡ get_or vs 1 b → c ≡ get_or vs 2 c
+    → d ≡ get_or vs 3 d → map f vs ≡ f a ∷ f b ∷ f c ∷ f d ∷ []
 four_items f [] a b c d least below first second third fourth = absurd (omega (arith, least))
 four_items f (x ∷ []) a b c d least below first second third fourth = absurd (omega (arith, least))
 four_items f (x ∷ y ∷ []) a b c d least below first second third fourth = absurd (omega (arith, least))

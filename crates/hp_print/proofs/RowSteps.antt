@@ -4,7 +4,8 @@ use Rattle.hp_model.specs.Values.{Name}
 use Rattle.hp_model.specs.NotationTokens.{equal_sign}
 use Rattle.hp_model.specs.NotationForms as F
 use Rattle.hp_model.specs.NotationForms.{Rows, fold_word}
-use Rattle.hp_model.specs.NotationPrint.{space, Pieces, at_gap, sign, free, name, value_token, expression_pieces, predicate_pieces, rows_pieces, begins_aggregate, apart_from, aggregate_pieces, binding_pieces, query_pieces}
+use Rattle.hp_model.specs.NotationPrint.{space, Pieces, at_gap, sign, free, name, value_token, expression_pieces, predicate_pieces, rows_pieces, begins_aggregate, apart_from}
+use Rattle.hp_model.specs.NotationPrint.{aggregate_pieces, binding_pieces, query_pieces}
 use Rattle.hp_model.specs.NotationValues.{of_one, of_two, of_three}
 use Rattle.hp_print.specs.Written.{step}
 

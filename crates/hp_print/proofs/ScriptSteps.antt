@@ -9,8 +9,11 @@ use Rattle.hp_model.specs.Parts.{name_of}
 use Rattle.hp_model.specs.NotationTokens.{if_mark, on_mark, do_mark, colon, equal_sign, open_brace}
 use Rattle.hp_model.specs.NotationForms as F
 use Rattle.hp_model.specs.NotationForms.{kind_word}
-use Rattle.hp_model.specs.NotationPrint.{Gap, tight, space, line, paragraph, Pieces, sign, free, name, natural, expression_in, assignment_pieces, field_pieces, fields_pieces, class_pieces, closed_pieces, event_pieces, mode_pieces, condition_pieces, query_pieces, body_pieces, rule_pieces, item_pieces, depth_pieces, classes_pieces, rule_pieces}
-use Rattle.hp_model.specs.NotationValues.{of_one, of_two, of_three, script_with, assignment_of, field_form, class_form, any_expression, kind_named, list_form, each_of, item_in, item_form, rule_in, rule_form, rule_of_parts}
+use Rattle.hp_model.specs.NotationPrint.{Gap, tight, space, line, paragraph, Pieces, sign, free, name, natural, expression_in, assignment_pieces, field_pieces, fields_pieces}
+use Rattle.hp_model.specs.NotationPrint.{class_pieces, closed_pieces, event_pieces, mode_pieces, condition_pieces, query_pieces, body_pieces, rule_pieces, item_pieces}
+use Rattle.hp_model.specs.NotationPrint.{depth_pieces, classes_pieces, rule_pieces}
+use Rattle.hp_model.specs.NotationValues.{of_one, of_two, of_three, script_with, assignment_of, field_form, class_form, any_expression, kind_named, list_form, each_of, item_in}
+use Rattle.hp_model.specs.NotationValues.{item_form, rule_in, rule_form, rule_of_parts}
 use Rattle.serde_json.specs.Find.{as_str}
 use Rattle.hp_print.specs.Written.{step}
 use Rattle.hp_print.specs.Rules.{conditions_pieces, rules_pieces, items_pieces, script_before}

@@ -1,10 +1,12 @@
 -- Statements, part by part.
 use Rattle.std.proofs.Common.{◌≡◌, refl, sym, ap, ◌∙◌, ℕ, List, Option, Some, None, option_map, option_and_then, codes}
 use Rattle.hp_model.specs.Values.{Name}
-use Rattle.hp_model.specs.NotationTokens.{Mark, delete_mark, signal_mark, emit_mark, veto_mark, if_mark, else_mark, otherwise_mark, each_mark, for_mark, with_mark, as_mark, sub_mark, open_parenthesis, close_parenthesis}
+use Rattle.hp_model.specs.NotationTokens.{Mark, delete_mark, signal_mark, emit_mark, veto_mark, if_mark, else_mark, otherwise_mark, each_mark, for_mark, with_mark, as_mark}
+use Rattle.hp_model.specs.NotationTokens.{sub_mark, open_parenthesis, close_parenthesis}
 use Rattle.hp_model.specs.NotationForms as F
 use Rattle.hp_model.specs.NotationForms.{Rows, setting_mark, operation_mark}
-use Rattle.hp_model.specs.NotationPrint.{tight, space, line, Pieces, sign, free, name, expression_pieces, object_pieces, assignments_pieces, arguments_pieces, rows_pieces, binding_pieces, apart_from, is_let, is_empty, body_after, body_pieces, statement_pieces}
+use Rattle.hp_model.specs.NotationPrint.{tight, space, line, Pieces, sign, free, name, expression_pieces, object_pieces, assignments_pieces, arguments_pieces, rows_pieces}
+use Rattle.hp_model.specs.NotationPrint.{binding_pieces, apart_from, is_let, is_empty, body_after, body_pieces, statement_pieces}
 use Rattle.hp_model.specs.NotationValues.{of_one, of_two, of_three}
 use Rattle.hp_print.specs.Written.{step}
 
@@ -73,7 +75,8 @@ on_rule_step depth op m is x rest = on_rule_plain depth op x rest ∙ ap (λ n. 
 -- ---- with bodies
 
 pub when_step : (depth : ℕ) (e : Option F.Expression) (b : Option F.Body) (c : Option F.Body) (rest : Option Pieces)
-    → step (λ s. statement_pieces s depth) (of_three F.when e b c) rest ≡ option_map (sign (line depth) if_mark) (step (λ v. expression_pieces v space) e (step (λ b. body_pieces b depth) b (step (λ b. body_after else_mark (is_empty b) (body_pieces b depth)) c rest)))
+    → step (λ s. statement_pieces s depth) (of_three F.when e b c) rest ≡ option_map (sign (line depth) if_mark)
+    (step (λ v. expression_pieces v space) e (step (λ b. body_pieces b depth) b (step (λ b. body_after else_mark (is_empty b) (body_pieces b depth)) c rest)))
 when_step depth None None None rest = refl
 when_step depth None None (Some c) rest = refl
 when_step depth None (Some b) None rest = refl
@@ -101,7 +104,8 @@ for_step depth (Some x) (Some b) None = refl
 for_step depth (Some x) (Some b) (Some k) = refl
 
 pub with_step : (depth : ℕ) (x : Option Name) (c : Option Name) (e : Option F.Expression) (b : Option F.Body) (rest : Option Pieces)
-    → step (λ s. statement_pieces s depth) (option_and_then (λ n. of_three (F.with_object n) c e b) x) rest ≡ option_map (sign (line depth) with_mark) (of_three object_pieces c e (option_map (sign space as_mark) (step (name space) x (step (λ v. body_pieces v depth) b rest))))
+    → step (λ s. statement_pieces s depth) (option_and_then (λ n. of_three (F.with_object n) c e b) x) rest ≡ option_map (sign (line depth) with_mark)
+    (of_three object_pieces c e (option_map (sign space as_mark) (step (name space) x (step (λ v. body_pieces v depth) b rest))))
 with_step depth None None None None rest = refl
 with_step depth None None None (Some b) rest = refl
 with_step depth None None (Some e) None rest = refl
@@ -133,7 +137,8 @@ let_step depth (Some x) (Some a) (Some b) None = refl
 let_step depth (Some x) (Some a) (Some b) (Some k) = refl
 
 pub sub_step : (depth : ℕ) (b : Option F.Body) (c : Option F.Body) (rest : Option Pieces)
-    → step (λ s. statement_pieces s depth) (of_two F.subtransaction b c) rest ≡ option_map (sign (line depth) sub_mark) (step (λ b. body_pieces b depth) b (step (λ b. body_after otherwise_mark (is_empty b) (body_pieces b depth)) c rest))
+    → step (λ s. statement_pieces s depth) (of_two F.subtransaction b c) rest ≡ option_map (sign (line depth) sub_mark)
+    (step (λ b. body_pieces b depth) b (step (λ b. body_after otherwise_mark (is_empty b) (body_pieces b depth)) c rest))
 sub_step depth None None rest = refl
 sub_step depth None (Some c) rest = refl
 sub_step depth (Some b) None rest = refl

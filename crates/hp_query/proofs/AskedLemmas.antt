@@ -9,10 +9,11 @@ use Rattle.std.proofs.lemmas.Bool.Decides.{same_from_decides}
 use Rattle.std.proofs.lemmas.Cmp.{int_eq_equiv, nat_list_cmp_total}
 use Rattle.std.proofs.lemmas.Map.Text.{is_eq-slice_cmp}
 use lib.Pointwise.{bytes_decides}
-use Rattle.hp_model.specs.Values.{Name, Value, integer, boolean, text, KeyedRow, Outcome, ◌>>=◌}
-use Rattle.hp_model.specs.Expressions.{Expression, Comparison, equal, unequal, less, at_most, greater, at_least, both, compared, Environment, bound, as_boolean, field_in, is_equal, is_below, compare, value_of}
+use Rattle.hp_model.specs.Values.{Name, Value, integer, boolean, text, KeyedRow, Cause, Outcome, ◌>>=◌}
+use Rattle.hp_model.specs.Expressions.{Expression, Comparison, equal, unequal, less, at_most, greater, at_least, both, compared, Environment, bound, as_boolean, field_in, is_equal}
+use Rattle.hp_model.specs.Expressions.{is_below, compare, row_named, value_of}
 use Rattle.hp_model.specs.ClassParts.{Attribute, key_attribute, field_attribute, attribute_of, lies_within}
-use Rattle.hp_query.specs.Parts.{AsksForPart, Compares, expression_of, turned, low_bound, high_bound}
+use Rattle.hp_query.specs.Parts.{IsTrueInside, AsksForPart, Compares, expression_of, turned, low_bound, high_bound, part_compared, is_comparison, is_true_at_bounds}
 use Rattle.hp_query.proofs.ByKeyLemmas.{value_stays, no_more, own_row}
 
 -- ---- two values that are in order aren't in the other order, and aren't equal
@@ -114,6 +115,72 @@ outside_false less v w isnt = below_once v w (too_high (is_below v w) isnt)
 outside_false at_most v w isnt = turned_false (is_below v w) (too_high (is_below v w) isnt)
 outside_false greater v w isnt = below_once w v (too_low (is_below w v) isnt)
 outside_false at_least v w isnt = turned_false (is_below w v) (too_low (is_below w v) isnt)
+
+-- ---- within the bounds of some comparisons they are true
+
+numbers_same : (y z : ℤ) → int_lt y z ≡ false → int_lt z y ≡ false → int_eq y z ≡ true
+numbers_same y z h k = grind arith
+
+neither : (r : Ordering) → is_lt r ≡ false → is_lt (ordering_reverse r) ≡ false → is_eq r ≡ true
+neither Less h k = cc
+neither Equal h k = refl
+neither Greater h k = cc
+
+texts_same : (s t : List ℕ) → is_lt (slice_cmp nat_cmp s t) ≡ false → is_lt (slice_cmp nat_cmp t s) ≡ false → bytes_eq s t ≡ true
+texts_same s t h k = sym (is_eq-slice_cmp s t) ∙ neither (slice_cmp nat_cmp s t) h (ap is_lt (sym (nat_list_cmp_total.antisymm t s)) ∙ k)
+
+neither_below : (v w : Value) → is_below v w ≡ Ok false → is_below w v ≡ Ok false → is_equal v w ≡ Ok true
+neither_below (integer y) (integer z) h k = ap Ok (numbers_same y z (one_bool h) (one_bool k))
+neither_below (text s) (text t) h k = ap Ok (texts_same s t (one_bool h) (one_bool k))
+neither_below (integer y) (boolean c) h k = cc
+neither_below (integer y) (text t) h k = cc
+neither_below (boolean b) w h k = cc
+neither_below (text s) (integer z) h k = cc
+neither_below (text s) (boolean c) h k = cc
+
+high_enough : (o : Outcome Bool) → (o >>= λ f. Ok (f && true)) ≡ Ok true → o ≡ Ok true
+high_enough (Ok true) h = refl
+high_enough (Ok false) h = cc
+high_enough (Err c) h = cc
+
+low_enough : (o : Outcome Bool) → (o >>= λ f. Ok (true && f)) ≡ Ok true → o ≡ Ok true
+low_enough (Ok true) h = refl
+low_enough (Ok false) h = cc
+low_enough (Err c) h = cc
+
+inside_true : (op : Comparison) (v w : Value) → is_true_at_bounds op ≡ true → lies_within (low_bound op v) (high_bound op v) w ≡ Ok true → compare op w v ≡ Ok true
+inside_true equal v w at is = by (is_below w v) (is_below v w) refl refl is
+  where
+    by : (o p : Outcome Bool) → is_below w v ≡ o → is_below v w ≡ p → ((o >>= λ b. Ok (not b)) >>= λ f. (p >>= λ b. Ok (not b)) >>= λ g. Ok (f && g)) ≡ Ok true → is_equal w v ≡ Ok true
+    by (Ok false) (Ok false) is other h = neither_below w v is other
+    by (Ok false) (Ok true) _ _ h = cc
+    by (Ok true) (Ok false) _ _ h = cc
+    by (Ok true) (Ok true) _ _ h = cc
+    by (Ok true) (Err c) _ _ h = cc
+    by (Ok false) (Err c) _ _ h = cc
+    by (Err c) p _ _ h = cc
+inside_true unequal v w at is = cc
+inside_true less v w at is = cc
+inside_true at_most v w at is = low_enough (compare at_most w v) is
+inside_true greater v w at is = cc
+inside_true at_least v w at is = high_enough (compare at_least w v) is
+
+compared_inside : (op : Comparison) (o : Outcome Value) (v : Value) → is_true_at_bounds op ≡ true → (o >>= λ w. lies_within (low_bound op v) (high_bound op v) w) ≡ Ok true
+    → (o >>= λ w. compare op w v) ≡ Ok true
+compared_inside op (Ok w) v at is = inside_true op v w at is
+compared_inside op (Err c) v at is = cc
+
+both_true : (a b : Bool) → (a && b) ≡ true → (a ≡ true) × (b ≡ true)
+both_true true b e = (refl, e)
+both_true false b e = cc
+
+-- where the predicate is such a comparison, it is true in the part
+pub true_inside : {x : Name} {predicate : Expression} {a : Attribute} {op : Comparison} {wanted : Expression} → (is_comparison predicate ≡ true → Compares x predicate a op wanted)
+    → (is_comparison predicate && is_true_at_bounds op) ≡ true → (env : Environment) (c : Cause) (v : Value) → row_named env x ≡ Err c → value_of env wanted ≡ Ok v
+    → IsTrueInside env x predicate (part_compared a op v)
+true_inside {predicate} {a} {op} is exact env c v free value =
+    let (one, at) = both_true (is_comparison predicate) (is_true_at_bounds op) exact in
+    record { inside = λ r within. (is one).compares env c v free value r ∙ compared_inside op (attribute_of a r) v at within }
 
 -- ---- which predicates ask for a part
 

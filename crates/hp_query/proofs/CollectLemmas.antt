@@ -40,7 +40,8 @@ collects_more {class} {world} keys i key objects new row within is so_far there 
         }
 
 -- each key that is left has its row
-pub collects_each : {class : ℕ} {world : Objects} (keys : List ℤ) (i : ℕ) (key : ℤ) (objects : List KeyedRow) → i < length keys → key ≡ get_or keys i (pos 0) → Collects class world (drop i keys) objects
+pub collects_each : {class : ℕ} {world : Objects} (keys : List ℤ) (i : ℕ) (key : ℤ) (objects : List KeyedRow) → i < length keys → key ≡ get_or keys i (pos 0)
+    → Collects class world (drop i keys) objects
     → None ≡ find_object world class key → ⊥
 collects_each {class} {world} keys i key objects within is so_far none = by so_far.rest (sym (split_at keys i key within is) ∙ so_far.are) so_far.found
   where

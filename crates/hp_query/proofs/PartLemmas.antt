@@ -1,5 +1,6 @@
 -- The objects of a part of a class, under a layer and in a world.
-use Rattle.std.proofs.Common.{◌≡◌, refl, sym, ap, ap₂, ◌∙◌, ℕ, zero, suc, ◌<◌, ℤ, Bool, true, false, ◌||◌, ◌&&◌, cond, List, [], ◌∷◌, length, map, filter, slice_index_or, Option, Some, None, is_some, option_map, Ok, Err, if◌then◌else◌, int_eq, arith}
+use Rattle.std.proofs.Common.{◌≡◌, refl, sym, ap, ap₂, ◌∙◌, ℕ, zero, suc, ◌<◌, ℤ, Bool, true, false, ◌||◌, ◌&&◌, cond, List, [], ◌∷◌, length, map, filter, slice_index_or, Option}
+use Rattle.std.proofs.Common.{Some, None, is_some, option_map, Ok, Err, if◌then◌else◌, int_eq, arith}
 use Rattle.std.specs.Prelude.{All}
 use Rattle.std.specs.Ordering.{int_cmp}
 use Rattle.std.specs.List.{list_any, AllByRecursion}
@@ -36,7 +37,8 @@ same_at : (f g : ℤ → Option CellValue) (objects : List KeyedRow) → All (λ
     → (key : ℤ) → list_any (int_eq key) (map (λ (o : KeyedRow). o.key) objects) ≡ true → f key ≡ g key
 same_at f g [] fs gs key among = cc
 same_at f g (o ∷ os) fs gs key among =
-    by (int_eq key o.key) refl (same_at f g os (All-tail (λ (o : KeyedRow). f o.key ≡ Some (row_value o.row)) o os fs) (All-tail (λ (o : KeyedRow). g o.key ≡ Some (row_value o.row)) o os gs) key) among
+    by (int_eq key o.key) refl (same_at f g os (All-tail (λ (o : KeyedRow). f o.key ≡ Some (row_value o.row)) o os fs) (All-tail (λ (o : KeyedRow). g o.key ≡ Some (row_value o.row)) o os gs)
+    key) among
   where
     by : (b : Bool) → int_eq key o.key ≡ b → (list_any (int_eq key) (map (λ (o : KeyedRow). o.key) os) ≡ true → f key ≡ g key)
         → (b || list_any (int_eq key) (map (λ (o : KeyedRow). o.key) os)) ≡ true → f key ≡ g key
@@ -51,7 +53,8 @@ same_ok (Ok c) a b p q = cc
 same_ok (Err c) a b p q = cc
 
 -- a part under a layer depends only on the part beneath and on the layer
-module _ (before base : Cells) (layer : Changes) (class : ℕ) (p : ClassPart) (hits now : List KeyedRow) (beneath : ArePart before class p hits) (above : ArePart (over before layer) class p now) (told : ArePart base class p hits) where
+module _ (before base : Cells) (layer : Changes) (class : ℕ) (p : ClassPart) (hits now : List KeyedRow) (beneath : ArePart before class p hits)
+    (above : ArePart (over before layer) class p now) (told : ArePart base class p hits) where
   has_over : (key : ℤ) (change : Option (Option CellValue)) → layer (object_cell class key) ≡ change
       → belongs_in p key (over base layer (object_cell class key)) ≡ belongs_in p key (over before layer (object_cell class key))
   has_over key (Some x) is = ap (λ c. belongs_in p key (changed (base (object_cell class key)) c)) is ∙ sym (ap (λ c. belongs_in p key (changed (before (object_cell class key)) c)) is)
@@ -84,7 +87,8 @@ module _ (before base : Cells) (layer : Changes) (class : ℕ) (p : ClassPart) (
 one_row_value : {r s : Row} → Some (row_value r) ≡ Some (row_value s) → r ≡ s
 one_row_value e = cc
 
-same_rows : (f : ℤ → Option CellValue) (xs ys : List KeyedRow) → keys_of xs ≡ keys_of ys → AllByRecursion (λ (o : KeyedRow). f o.key ≡ Some (row_value o.row)) xs → All (λ (o : KeyedRow). f o.key ≡ Some (row_value o.row)) ys → xs ≡ ys
+same_rows : (f : ℤ → Option CellValue) (xs ys : List KeyedRow) → keys_of xs ≡ keys_of ys → AllByRecursion (λ (o : KeyedRow). f o.key ≡ Some (row_value o.row)) xs
+    → All (λ (o : KeyedRow). f o.key ≡ Some (row_value o.row)) ys → xs ≡ ys
 same_rows f [] [] same p q = refl
 same_rows f [] (y ∷ ys) same p q = cc
 same_rows f (x ∷ xs) [] same p q = cc
@@ -107,7 +111,8 @@ module _ (base : Cells) (class : ℕ) (p : ClassPart) (objects : List KeyedRow) 
   picked_all (r ∷ rs) found =
       ap₂ (λ (o : Outcome Bool) (q : Outcome (List KeyedRow)). o >>= λ keep. q >>= λ rest. Ok (if keep then r ∷ rest else rest)) (told r found.0) (picked_all rs found.1)
 
-  filtered_found : (rows : List KeyedRow) → AreFound world class rows → AllByRecursion (λ (o : KeyedRow). base (object_cell class o.key) ≡ Some (row_value o.row)) (filter (λ (r : KeyedRow). listed r.key) rows)
+  filtered_found : (rows : List KeyedRow) → AreFound world class rows
+      → AllByRecursion (λ (o : KeyedRow). base (object_cell class o.key) ≡ Some (row_value o.row)) (filter (λ (r : KeyedRow). listed r.key) rows)
   filtered_found [] found = tt
   filtered_found (r ∷ rs) found = by (listed r.key) (same r.key ∙ ap (option_map row_value) found.0) (filtered_found rs found.1)
     where
@@ -148,4 +153,5 @@ module _ (base : Cells) (class : ℕ) (p : ClassPart) (objects : List KeyedRow) 
       filtered_keys (rows_of class world)
       ∙ same_keys (filter listed (class_keys class world)) (keys_of objects) (IsStrictlySortedBy-filter int_cmp listed (class_keys class world) (class_keys_rise class world rise)) are.rise among in
       picked_all (rows_of class world) (rows_found class world rise)
-      ∙ ap Ok (same_rows (λ key. base (object_cell class key)) (filter (λ (r : KeyedRow). listed r.key) (rows_of class world)) objects keys (filtered_found (rows_of class world) (rows_found class world rise)) are.rows)
+      ∙ ap Ok (same_rows (λ key. base (object_cell class key)) (filter (λ (r : KeyedRow). listed r.key) (rows_of class world)) objects keys
+      (filtered_found (rows_of class world) (rows_found class world rise)) are.rows)

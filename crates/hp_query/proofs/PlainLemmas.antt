@@ -33,7 +33,8 @@ found_at (e ∷ es) class key = ap (cond (is_at (compare_names (object_name clas
 abbrev named : ObjectName × Row → M.ObjectName × Row
 named e = (object_name e.0.class e.0.key, e.1)
 
-written_at : (entries : Entries) (class : ℕ) (key : ℤ) (row : Row) → objects_in (insert_entry name_cmp entries (record { class = class; key = key }) row) ≡ write_object (objects_in entries) class key row
+written_at : (entries : Entries) (class : ℕ) (key : ℤ) (row : Row)
+    → objects_in (insert_entry name_cmp entries (record { class = class; key = key }) row) ≡ write_object (objects_in entries) class key row
 written_at [] class key row = refl
 written_at (e ∷ es) class key row = by (compare_names (object_name class key) (object_name e.0.class e.0.key)) (written_at es class key row)
   where
@@ -67,7 +68,8 @@ pub written_in : (entries : Entries) (class : ℕ) (key passed : ℤ) (row : Row
     → objects_in (insert_entry name_cmp entries (record { class = class; key = passed }) row) ≡ write_object (objects_in entries) class key row
 written_in entries class key passed row same = ap (λ k. objects_in (insert_entry name_cmp entries (record { class = class; key = k }) row)) same ∙ written_at entries class key row
 
-pub removed_in : (entries : Entries) (class : ℕ) (key passed : ℤ) → passed ≡ key → objects_in (remove_entry (is_at (name_cmp (record { class = class; key = passed }))) entries) ≡ remove_object (objects_in entries) class key
+pub removed_in : (entries : Entries) (class : ℕ) (key passed : ℤ) → passed ≡ key
+    → objects_in (remove_entry (is_at (name_cmp (record { class = class; key = passed }))) entries) ≡ remove_object (objects_in entries) class key
 removed_in entries class key passed same = ap (λ k. objects_in (remove_entry (is_at (name_cmp (record { class = class; key = k }))) entries)) same ∙ removed_at entries class key
 
 -- ---- the keys stay within 64 bits

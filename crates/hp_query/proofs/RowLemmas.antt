@@ -190,7 +190,8 @@ one_row class key (o ∷ os) rise =
     turned t is = int_eq_equiv.symm key o.0.key ∙ is
 
     by : (b t : Bool) → (o.0.class == class) ≡ b → int_eq o.0.key key ≡ t → rest ≡ with_key key (find_object os class key)
-        → filter (λ (r : KeyedRow). int_eq r.key key) (map keyed (cond b (o ∷ of_class class os) (of_class class os))) ≡ with_key key (cond (b && int_eq key o.0.key) (Some o.1) (find_object os class key))
+        → filter (λ (r : KeyedRow). int_eq r.key key) (map keyed (cond b (o ∷ of_class class os) (of_class class os))) ≡ with_key key
+        (cond (b && int_eq key o.0.key) (Some o.1) (find_object os class key))
     by true true same is later =
         let here : keyed o ≡ record { key = key; row = o.1 } = (λ i. record { key = (Decides-int_eq o.0.key key).0 is i; row = o.1 }) in
         let nothing : rest ≡ [] = later ∙ ap (with_key key) (gone same is) in

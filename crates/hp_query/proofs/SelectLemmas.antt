@@ -59,7 +59,8 @@ module _ (env : Environment) (x : Name) (predicate : Expression) (all : List Key
   pub left_at_first : IsLeft env x predicate all all []
   left_at_first = front_nothing (selected env x predicate all)
 
-  pub left_at : (objects : List RustRow) (i : ℕ) (object : RustRow) (front : List KeyedRow) → i < length objects → object ≡ get_or objects i object → IsLeft env x predicate all (map keyed_row (drop i objects)) front
+  pub left_at : (objects : List RustRow) (i : ℕ) (object : RustRow) (front : List KeyedRow) → i < length objects → object ≡ get_or objects i object
+      → IsLeft env x predicate all (map keyed_row (drop i objects)) front
       → IsLeft env x predicate all (keyed_row object ∷ map keyed_row (drop (i + 1) objects)) front
   left_at objects i object front within is left =
       subst (λ rows. IsLeft env x predicate all rows front) (next_left objects i object within is) left

@@ -145,5 +145,6 @@ module _ {objects : Objects} {env : Environment} {entries : List Entry} where
       → Continues objects env entries found (map f (drop i xs)) → Continues objects env entries found (f x ∷ map f (drop (i + 1) xs))
   continues_at f xs i x found within is continues = subst (λ ys. Continues objects env entries found (map f ys)) (split_at xs i x within is) continues
 
-  pub continues_past : {A : Type 0} (f : A → Entry) (xs : List A) (i : ℕ) (found : Findings) → length xs ≤ i → Continues objects env entries found (map f (drop i xs)) → Continues objects env entries found []
+  pub continues_past : {A : Type 0} (f : A → Entry) (xs : List A) (i : ℕ) (found : Findings) → length xs ≤ i → Continues objects env entries found (map f (drop i xs))
+      → Continues objects env entries found []
   continues_past f xs i found past continues = subst (λ ys. Continues objects env entries found (map f ys)) (drop_of_length-le xs past) continues

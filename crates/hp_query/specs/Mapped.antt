@@ -1,5 +1,5 @@
 -- What the crate's types stand for in the model.
-use Rattle.std.specs.Prelude.{List, [], ◌∷◌, Some, None, map, string_bytes}
+use Rattle.std.specs.Prelude.{Bool, true, false, List, [], ◌∷◌, Some, None, map, string_bytes}
 use Rattle.std.specs.Global.{Vec}
 use Rattle.hp_model.specs.Values as V
 use Rattle.hp_model.specs.Rules as R
@@ -54,7 +54,15 @@ abbrev pub candidate_rows : Candidates → List V.KeyedRow
 candidate_rows (K.One None) = []
 candidate_rows (K.One (Some r)) = keyed_row r ∷ []
 candidate_rows (K.Part rows) = keyed_rows rows
+candidate_rows (K.Selected rows) = keyed_rows rows
 candidate_rows (K.All objects) = objects.value
+
+-- whether the predicate is known to be true of all candidates
+abbrev pub are_selected : Candidates → Bool
+are_selected (K.One found) = false
+are_selected (K.Part rows) = false
+are_selected (K.Selected rows) = true
+are_selected (K.All objects) = false
 
 abbrev pub merge : Merge → C.Merge
 merge Sum = C.added

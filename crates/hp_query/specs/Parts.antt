@@ -1,5 +1,5 @@
 -- Predicates that are false of all rows outside a part of their class.
-use Rattle.std.specs.Prelude.{◌≡◌, false, Option, Some, None, Ok, Err, if◌then◌else◌, bytes_eq}
+use Rattle.std.specs.Prelude.{◌≡◌, Bool, true, false, Option, Some, None, Ok, Err, if◌then◌else◌, bytes_eq}
 use Rattle.std.specs.Option.{option_and_then}
 use Rattle.hp_model.specs.Values.{Name, Value, KeyedRow, Cause, Outcome, ◌>>=◌}
 use Rattle.hp_model.specs.Expressions.{Comparison, equal, unequal, less, at_most, greater, at_least, Expression, compared, field_of, key_of, Environment, bound, row_named, compare, value_of}
@@ -10,6 +10,10 @@ use Rattle.hp_query.specs.ByKey.{first_test, if_free}
 -- for each object outside the part the predicate is false, without a fault
 pub record IsFalseOutside (env : Environment) (x : Name) (predicate : Expression) (p : ClassPart) : Type 0 where
   pub outside : (r : KeyedRow) → belongs p r ≡ Ok false → boolean_value (bound x r env) predicate ≡ Ok false
+
+-- for each object of the part the predicate is true
+pub record IsTrueInside (env : Environment) (x : Name) (predicate : Expression) (p : ClassPart) : Type 0 where
+  pub inside : (r : KeyedRow) → belongs p r ≡ Ok true → boolean_value (bound x r env) predicate ≡ Ok true
 
 -- the bounds of the values for which a comparison with another value can be true; both bounds are inclusive
 abbrev pub low_bound : {A : Type 0} → Comparison → A → Option A
@@ -28,12 +32,27 @@ high_bound at_most v = Some v
 high_bound greater v = None
 high_bound at_least v = None
 
+-- whether a comparison is true of each value within its bounds
+abbrev pub is_true_at_bounds : Comparison → Bool
+is_true_at_bounds equal = true
+is_true_at_bounds unequal = false
+is_true_at_bounds less = false
+is_true_at_bounds at_most = true
+is_true_at_bounds greater = false
+is_true_at_bounds at_least = true
+
+-- whether a predicate is one comparison
+abbrev pub is_comparison : Expression → Bool
+is_comparison (compared op a b) = true
+is_comparison e = false
+
 abbrev pub part_compared : Attribute → Comparison → Value → ClassPart
 part_compared a op v = record { attribute = a; low = low_bound op v; high = high_bound op v }
 
 -- the predicate is a comparison of the row's attribute with the expression, wherever the name has no meaning yet
 pub record Compares (x : Name) (predicate : Expression) (a : Attribute) (op : Comparison) (wanted : Expression) : Type 0 where
-  pub compares : (env : Environment) (c : Cause) (v : Value) → row_named env x ≡ Err c → value_of env wanted ≡ Ok v → (r : KeyedRow) → boolean_value (bound x r env) predicate ≡ (attribute_of a r >>= λ w. compare op w v)
+  pub compares : (env : Environment) (c : Cause) (v : Value) → row_named env x ≡ Err c → value_of env wanted ≡ Ok v → (r : KeyedRow)
+      → boolean_value (bound x r env) predicate ≡ (attribute_of a r >>= λ w. compare op w v)
 
 -- the predicate begins by comparing the row's attribute with the expression: wherever the name has no meaning yet, the
 -- predicate is false outside the part for the expression's value

@@ -1,13 +1,13 @@
 //! The rows of a class for which a predicate can be true.
 
-ghost use Rattle.std.specs.Prelude.{◌≡◌, ℤ, Some, map, string_bytes, IfOk, IfSome};
+ghost use Rattle.std.specs.Prelude.{◌≡◌, ℤ, Some, true, map, string_bytes, IfOk, IfSome};
 ghost use Rattle.hp_model.specs.State.{Objects, rows_of};
 ghost use Rattle.hp_value.specs.Mapped.{keyed_row, environment, expression};
 ghost use Rattle.hp_query.specs.ByKey.{IsFalseElsewhere, key_asked};
-ghost use Rattle.hp_query.specs.Candidates.{AreCandidates};
+ghost use Rattle.hp_query.specs.Candidates.{AreCandidates, IsTrueOfEach};
 ghost use Rattle.hp_query.specs.Looks.{ObjectsRise};
 ghost use Rattle.hp_query.specs.declared.candidates.Candidates.TheVariants.{One};
-ghost use Rattle.hp_query.specs.Mapped.{keyed_rows, candidate_rows};
+ghost use Rattle.hp_query.specs.Mapped.{candidate_rows, are_selected};
 
 use crate::by_key::asked_key;
 use crate::collect::objects_of;
@@ -55,6 +55,8 @@ pub(crate) enum Candidates {
     One(Option<KeyedRow>),
     /// The rows of the part that the predicate asks for.
     Part(Vec<KeyedRow>),
+    /// The same, where the predicate says no more: it is true of each of these rows.
+    Selected(Vec<KeyedRow>),
     /// All rows.
     All(Arc<ObjectList>),
 }
@@ -66,9 +68,16 @@ impl Candidates {
     {
         match self {
             Candidates::One(row) => row.as_slice(),
-            Candidates::Part(rows) => rows,
+            Candidates::Part(rows) | Candidates::Selected(rows) => rows,
             Candidates::All(objects) => objects.rows(),
         }
+    }
+
+    /// Whether the predicate is known to be true of each row.
+    pub(crate) fn are_selected(&self) -> bool
+        ensures { result ≡ are_selected self.now }
+    {
+        matches!(self, Candidates::Selected(_))
     }
 }
 
@@ -90,12 +99,15 @@ pub(crate) fn find_candidates<L: Look>(
     ensures rows { IfOk result (λ found. (world : Objects) → ObjectsRise world → L.allows look.new world
         → AreCandidates (environment asked.now.env.now) asked.now.name.now (expression asked.now.predicate.now)
         (candidate_rows found) (rows_of asked.now.class world)) }
+    ensures selected { IfOk result (λ found. are_selected found ≡ true → (world : Objects) → ObjectsRise world
+        → L.allows look.new world → IsTrueOfEach (environment asked.now.env.now) asked.now.name.now
+        (expression asked.now.predicate.now) (candidate_rows found)) }
 {
     if let Some(key) = asked_key(alloc, asked.name, asked.predicate, asked.env)? {
         return Ok(Candidates::One(row_at(alloc, asked, key, look)?));
     }
-    if let Some(objects) = part_rows(alloc, asked, look)? {
-        return Ok(Candidates::Part(objects));
+    if let Some(found) = part_rows(alloc, asked, look)? {
+        return Ok(found);
     }
     Ok(Candidates::All(objects_of(alloc, look, asked.class)?))
 }
@@ -129,20 +141,29 @@ fn part_rows<L: Look>(
     alloc: Global,
     asked: &Asked<'_>,
     look: &mut L,
-) -> Result<Option<Vec<KeyedRow>>, AllocError>
+) -> Result<Option<Candidates>, AllocError>
     ensures goes_on { L.goes_on look.old look.new }
     ensures asks { L.asks asked.now.class look.old look.new }
     ensures narrows { (world : Objects) → L.allows look.new world → L.allows look.old world }
-    ensures rows { IfOk result (λ found. IfSome found (λ objects. (world : Objects) → ObjectsRise world
+    ensures rows { IfOk result (λ found. IfSome found (λ rows. (world : Objects) → ObjectsRise world
         → L.allows look.new world
         → AreCandidates (environment asked.now.env.now) asked.now.name.now (expression asked.now.predicate.now)
-        (keyed_rows objects) (rows_of asked.now.class world))) }
+        (candidate_rows rows) (rows_of asked.now.class world))) }
+    ensures selected { IfOk result (λ found. IfSome found (λ rows. are_selected rows ≡ true → (world : Objects)
+        → ObjectsRise world → L.allows look.new world → IsTrueOfEach (environment asked.now.env.now)
+        asked.now.name.now (expression asked.now.predicate.now) (candidate_rows rows))) }
 {
     let Some(compared) = asked_part(alloc, asked.name, asked.predicate, asked.env)? else {
         return Ok(None);
     };
-    match compared.class_part() {
-        Some(part) => look.part(alloc, asked.class, &part),
-        None => Ok(None),
+    let Some(part) = compared.class_part() else {
+        return Ok(None);
+    };
+    let Some(rows) = look.part(alloc, asked.class, &part)? else {
+        return Ok(None);
+    };
+    if compared.is_exact() {
+        return Ok(Some(Candidates::Selected(rows)));
     }
+    Ok(Some(Candidates::Part(rows)))
 }

@@ -1,15 +1,16 @@
 //! Predicates that begin by asking for a part of a class.
 
-ghost use Rattle.std.specs.Prelude.{◌≡◌, IfOk, IfSome, IsOk, None, option_map};
+ghost use Rattle.std.specs.Prelude.{◌≡◌, ◌&&◌, true, IfOk, IfSome, IsOk, None, option_map};
 ghost use Rattle.std.specs.Option.{option_copied};
 ghost use Rattle.hp_model.specs.Expressions.{compared};
 ghost use Rattle.hp_value.specs.Mapped.{attribute, class_part, comparison, environment, expression, value};
-ghost use Rattle.hp_query.specs.Parts.{IsFalseOutside, AsksForPart, Compares, expression_of};
+ghost use Rattle.hp_query.specs.Parts.{IsFalseOutside, IsTrueInside, AsksForPart, Compares, expression_of};
 ghost use Rattle.hp_query.specs.ByKey.{first_test};
 ghost use Rattle.hp_query.specs.Mapped as mapped;
 ghost use Rattle.hp_query.specs.Parts as parts;
 ghost use Rattle.hp_query.specs.Parts.{either_side, attribute_tested, field_asked, part_asked};
 ghost use Rattle.hp_query.specs.Parts.{low_bound, high_bound, part_compared, turned};
+ghost use Rattle.hp_query.specs.Parts.{is_comparison, is_true_at_bounds};
 
 use hp_value::{Attribute, Bounds, ClassPart, Comparison, Env, Expr, Halt, Value};
 use std::alloc::{AllocError, Global};
@@ -20,12 +21,21 @@ pub(crate) struct AskedPart<'e> {
     attribute: Attribute<'e>,
     comparison: Comparison,
     value: Value,
+    is_exact: bool,
 }
 
 impl AskedPart<'_> {
+    /// Whether the predicate is known to be true of each row of the part. Otherwise it says more than the part, and is
+    /// to be tested on the part's rows.
+    pub(crate) fn is_exact(&self) -> bool
+        ensures { result ≡ self.now.is_exact }
+    {
+        self.is_exact
+    }
+
     /// The part of the class outside which the comparison is false. `None` if the value is a boolean.
     ///
-    /// Both bounds are inclusive, whatever the comparison is: the predicate is still tested on the part's rows.
+    /// Both bounds are inclusive, whatever the comparison is.
     pub(crate) fn class_part(&self) -> Option<ClassPart<'_>>
         ensures { IfSome result (λ part.
             class_part part
@@ -77,6 +87,9 @@ pub(crate) fn asked_part<'e>(
     ensures outside { IfOk result (λ asked. IfSome asked (λ a.
         IsFalseOutside (environment env.now) name.now (expression predicate.now)
         (part_compared (attribute a.attribute) (comparison a.comparison) (value a.value)))) }
+    ensures inside { IfOk result (λ asked. IfSome asked (λ a. a.is_exact ≡ true →
+        IsTrueInside (environment env.now) name.now (expression predicate.now)
+        (part_compared (attribute a.attribute) (comparison a.comparison) (value a.value)))) }
     ensures none { attribute_tested name.now (first_test (expression predicate.now)) ≡ None → IsOk result }
 {
     let Some(compared) = compared_attribute(name, predicate) else {
@@ -91,9 +104,21 @@ pub(crate) fn asked_part<'e>(
             attribute: compared.attribute,
             comparison: compared.comparison,
             value,
+            is_exact: is_exact(predicate, compared.comparison),
         })),
         Err(Halt::Memory) => Err(AllocError),
         Err(Halt::Cause(_)) => Ok(None),
+    }
+}
+
+// Whether a predicate is one comparison alone, and one that is true at its bounds.
+fn is_exact(predicate: &Expr, compared: Comparison) -> bool
+    ensures { result ≡ (is_comparison (expression predicate.now) && is_true_at_bounds (comparison compared)) }
+{
+    match (predicate, compared) {
+        (Expr::Comparison(_, _, _), Comparison::Equal | Comparison::AtMost | Comparison::AtLeast) =>
+            true,
+        _ => false,
     }
 }
 
@@ -126,6 +151,9 @@ fn compared_attribute<'e>(name: &str, predicate: &'e Expr) -> Option<Compared<'e
         ≡ attribute_tested name.now (first_test (expression predicate.now)) }
     ensures asks { IfSome result (λ c.
         AsksForPart name.now (expression predicate.now) (attribute c.attribute) (comparison c.comparison)
+        (expression c.other.now)) }
+    ensures compares { is_comparison (expression predicate.now) ≡ true → IfSome result (λ c.
+        Compares name.now (expression predicate.now) (attribute c.attribute) (comparison c.comparison)
         (expression c.other.now)) }
 {
     match predicate {

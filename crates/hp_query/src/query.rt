@@ -16,7 +16,7 @@ ghost use Rattle.hp_query.specs.Parts.{field_asked};
 ghost use Rattle.hp_query.specs.Mapped.{keyed_rows};
 
 use crate::by_key::asks_key;
-use crate::candidates::{Asked, find_candidates};
+use crate::candidates::{Asked, Candidates, find_candidates};
 use crate::look::Look;
 use crate::part::asked_field;
 use hp_value::{ClassNo, Env, Expr, Halt, KeyedRow, Value};
@@ -109,8 +109,10 @@ pub fn selected_rows<L: Look>(
         predicate,
         env,
     };
-    let found = find_candidates(alloc, &asked, look)?;
-    selected(alloc, &asked, found.rows())
+    match find_candidates(alloc, &asked, look)? {
+        Candidates::Selected(rows) => Ok(rows),
+        found => selected(alloc, &asked, found.rows()),
+    }
 }
 
 /// The number of rows of a query's answer. It makes no list of them. If every object of the class is in the answer, the
@@ -136,6 +138,9 @@ pub(crate) fn count_answer<L: Look>(
     }
     let asked = Asked::new(query, env);
     let found = find_candidates(alloc, &asked, look)?;
+    if found.are_selected() {
+        return Ok(found.rows().len());
+    }
     count_selected(alloc, &asked, found.rows())
 }
 

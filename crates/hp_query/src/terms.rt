@@ -4,9 +4,12 @@ ghost use Rattle.std.specs.Prelude.{◌≡◌, [], ◌∷◌, Ok, Some, None, If
 ghost use Rattle.hp_model.specs.State.{Objects, rows_of};
 ghost use Rattle.hp_model.specs.Values.{integer};
 ghost use Rattle.hp_model.specs.Conditions as model;
+ghost use Rattle.hp_model.specs.Expressions.{bound};
+ghost use Rattle.hp_model.specs.Firing.{boolean_value};
 ghost use Rattle.hp_value.specs.Mapped as mapped;
 ghost use Rattle.hp_value.specs.Mapped.{Meets, environment, expression, keyed_row, outcome, value};
 ghost use Rattle.hp_query.specs.Looks.{ObjectsRise};
+ghost use Rattle.hp_query.specs.Candidates.{tested};
 ghost use Rattle.hp_query.specs.Mapped.{merge};
 
 use crate::by_end::{greatest_key, key_range, least_key};
@@ -141,19 +144,26 @@ impl Terms<'_> {
             (expression asked.predicate.now) (expression self.now.term.now) None (rows_of asked.class world)) }
     {
         let found = find_candidates(alloc, &self.asked, look)?;
-        self.merged_of(alloc, found.rows())
+        self.merged_of(alloc, found.rows(), found.are_selected())
     }
 
-    // The terms of the given objects for which the predicate is true, merged.
-    fn merged_of(&self, alloc: Global, objects: &[KeyedRow]) -> Result<Option<Value>, Halt>
+    // The terms of the given objects for which the predicate is true, merged. Where it is known to be true of all, it
+    // isn't tested.
+    fn merged_of(
+        &self,
+        alloc: Global,
+        objects: &[KeyedRow],
+        are_selected: bool,
+    ) -> Result<Option<Value>, Halt>
         ensures { let asked = self.now.asked in
             Meets (option_map value) result
             (model.merged (merge self.now.merge) (environment asked.env.now) asked.name.now
-            (expression asked.predicate.now) (expression self.now.term.now) None (map keyed_row objects.now)) }
+            (tested are_selected (expression asked.predicate.now)) (expression self.now.term.now) None
+            (map keyed_row objects.now)) }
     {
         let mut so_far = None;
         for object in objects {
-            so_far = self.with_object(alloc, so_far, object)?;
+            so_far = self.with_object(alloc, so_far, object, are_selected)?;
         }
         Ok(so_far)
     }
@@ -164,19 +174,33 @@ impl Terms<'_> {
         alloc: Global,
         so_far: Option<Value>,
         object: &KeyedRow,
+        is_known: bool,
     ) -> Result<Option<Value>, Halt>
         ensures { let asked = self.now.asked in
             Meets (option_map value) result
             (model.merged (merge self.now.merge) (environment asked.env.now) asked.name.now
-            (expression asked.predicate.now) (expression self.now.term.now) (option_map value so_far)
+            (tested is_known (expression asked.predicate.now)) (expression self.now.term.now) (option_map value so_far)
             (keyed_row object.now ∷ [])) }
     {
-        if !is_selected(alloc, &self.asked, object)? {
+        if !self.has_term(alloc, object, is_known)? {
             return Ok(so_far);
         }
         let asked = self.asked;
         let env = asked.env.bound(asked.name, object.key, &object.row);
         let term = self.term.eval(alloc, &env)?;
         Ok(Some(self.merge.with_term(so_far, term)?))
+    }
+
+    // Whether an object has a term: the predicate is known to be true of it, or it is.
+    fn has_term(&self, alloc: Global, object: &KeyedRow, is_known: bool) -> Result<bool, Halt>
+        ensures { let asked = self.now.asked in
+            Meets (λ b. b) result
+            (boolean_value (bound asked.name.now (keyed_row object.now) (environment asked.env.now))
+            (tested is_known (expression asked.predicate.now))) }
+    {
+        if is_known {
+            return Ok(true);
+        }
+        is_selected(alloc, &self.asked, object)
     }
 }

@@ -3,9 +3,11 @@ use Rattle.std.proofs.Common.{◌≡◌, refl, ap, ◌∙◌, ℕ, suc, ◌+◌,
 use Rattle.std.specs.Prelude.{flat_map, if◌then◌else◌}
 use Rattle.hp_model.specs.Values.{ClassDef, Cause, exists, missing, wrong_kind, overflow, divide_by_zero, no_parameter, depth_exceeded, requested, vetoed}
 use Rattle.hp_model.specs.Rules.{Coupling, Rule, Library}
-use Rattle.hp_model.specs.Tree.{Ending, committed, aborted, Condition, without_action, with_fault, with_action, with_later_action, Node, sub_node, fire_node, act_node, Operation, create_op, update_op, delete_op, rule_op, Items, no_items, operation, emission, detachment, node, if_committed, emits}
+use Rattle.hp_model.specs.Tree.{Ending, committed, aborted, Condition, without_action, with_fault, with_action, with_later_action, Node, sub_node, fire_node, act_node, Operation}
+use Rattle.hp_model.specs.Tree.{create_op, update_op, delete_op, rule_op, Items, no_items, operation, emission, detachment, node, if_committed, emits}
 use Rattle.hp_model.specs.Cascade.{TransactionReport, UnitReport, Evaluation}
-use Rattle.hp_model.specs.Report.{Bytes, line, value_text, rule_name, coupling_word, cause_words, ending_words, operation_words, firing_words, node_words, tree_text, heading, transaction_text, units_text, report_text}
+use Rattle.hp_model.specs.Report.{Bytes, line, value_text, rule_name, coupling_word, cause_words, ending_words, operation_words, firing_words, node_words, tree_text, heading}
+use Rattle.hp_model.specs.Report.{transaction_text, units_text, report_text}
 use Rattle.hp_model.specs.State.{Objects, RuleState}
 use Rattle.hp_report.specs.Text.{emit_lines, state_text, final_text}
 

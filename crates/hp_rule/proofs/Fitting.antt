@@ -9,7 +9,8 @@ use Rattle.hp_model.specs.Checked as C
 use Rattle.hp_model.specs.Ranges.{expression_fits, assignments_fit, aggregate_fits, entry_fits, statement_fits, body_fits, rule_fits, IsFitLibrary}
 use Rattle.hp_value.specs.Mapped.{expression}
 use Rattle.hp_value.specs.declared.expr.Expr.{Expr}
-use Rattle.hp_value.specs.declared.expr.Expr.TheVariants.{Constant, Arithmetic', Comparison', Negated', Not', And', Or', FieldOf, KeyOf, NewField, OldField, KeyIn, Argument, TimeOf, Count, ValueOf, Now}
+use Rattle.hp_value.specs.declared.expr.Expr.TheVariants.{Constant, Arithmetic', Comparison', Negated', Not', And', Or', FieldOf, KeyOf, NewField, OldField, KeyIn, Argument}
+use Rattle.hp_value.specs.declared.expr.Expr.TheVariants.{TimeOf, Count, ValueOf, Now}
 use Rattle.hp_query.specs.Mapped.{aggregate, entry}
 use Rattle.hp_query.specs.declared.aggregate.Aggregate.{Aggregate}
 use Rattle.hp_query.specs.declared.aggregate.Aggregate.TheVariants as A

@@ -42,7 +42,8 @@ couplings_told c d = (λ e. cc, λ e. cc)
 
 rules_told : (r s : Rule) → Decides (rules.ghosts.eq r s) (rule r ≡ rule s)
 rules_told r s =
-    let make : Name → Event → R.Coupling → List R.Entry → R.Coupling → R.Body → Bool → R.Rule = λ n e ec qs ac a c. record { name = n; event = e; event_coupling = ec; condition = qs; action_coupling = ac; action = a; closed = c } in
+    let make : Name → Event → R.Coupling → List R.Entry → R.Coupling → R.Body → Bool
+    → R.Rule = λ n e ec qs ac a c. record { name = n; event = e; event_coupling = ec; condition = qs; action_coupling = ac; action = a; closed = c } in
     both_decide _ _ (bytes_decides (string_bytes r.name) (string_bytes s.name))
     (pair_decide _ _ (event_decides (event r.event.value) (event s.event.value))
     (pair_decide _ _ (couplings_told r.ec s.ec)

@@ -1,5 +1,6 @@
 -- Checked libraries and bodies are well named.
-use Rattle.std.proofs.Common.{◌≡◌, ℕ, zero, suc, nat_lt, Bool, true, false, not, cond, ◌&&◌, ◌||◌, List, [], ◌∷◌, ◌++◌, length, map, Ok, Err, refl, sym, ap, ◌∙◌, bytes_eq, subst, append_assoc, append-nil}
+use Rattle.std.proofs.Common.{◌≡◌, ℕ, zero, suc, nat_lt, Bool, true, false, not, cond, ◌&&◌, ◌||◌, List, [], ◌∷◌, ◌++◌, length, map, Ok, Err, refl, sym, ap, ◌∙◌, bytes_eq, subst}
+use Rattle.std.proofs.Common.{append_assoc, append-nil}
 use Rattle.std.specs.Prelude.{⊤, codes}
 use Rattle.std.specs.List.{list_all, list_any, IsDistinct, AllByRecursion}
 use Rattle.std.specs.Cmp.{IsEquivalence, decided}
@@ -7,7 +8,8 @@ use lib.Pointwise.{bytes_decides}
 use Rattle.std.proofs.lemmas.List.{map-append}
 use Rattle.std.proofs.lemmas.Map.Keys.{IsDistinct-push}
 use Rattle.hp_model.specs.Values.{Name, ClassDef, Field, ◌>>=◌}
-use Rattle.hp_model.specs.Expressions.{Expression, constant, arithmetic, negated, inverted, both, either, compared, field_of, key_of, new_field, old_field, key_in, argument, time_of, occurrence_count, value_named, time_now}
+use Rattle.hp_model.specs.Expressions.{Expression, constant, arithmetic, negated, inverted, both, either, compared, field_of, key_of, new_field, old_field, key_in, argument}
+use Rattle.hp_model.specs.Expressions.{time_of, occurrence_count, value_named, time_now}
 use Rattle.hp_model.specs.Events.{Pattern, on_create, on_update, on_delete, on_signal, on_commit, at_moment, every_moment, Event, pattern_event, or_event, seq_event, closure_event}
 use Rattle.hp_model.specs.Rules.{Query, Aggregate, count_over, sum_over, least_over, greatest_over, next_key, single, Entry, query_entry, no_entry, let_entry}
 use Rattle.hp_model.specs.Rules.{Assignment, Statement, create, update, delete, signal, emit, when, each, for_answer, with_object, subtransaction, let_value, abort, veto, veto_with, on_rule, fire}
@@ -137,7 +139,8 @@ assignment_knows : (fields : List Field) (names : C.Names) (before : List Assign
     → W.knows_assignment (C.field_names fields) names a ≡ true
 unfolding C.assignment_check
 assignment_knows fields names before path a is =
-    both_are (assigned (C.field_names fields) (C.assigned_names before) (item_at path 0) a.field (first_passed (C.assigned_check (C.field_names fields) (C.assigned_names before) (item_at path 0) a.field) _ is))
+    both_are (assigned (C.field_names fields) (C.assigned_names before) (item_at path 0) a.field
+    (first_passed (C.assigned_check (C.field_names fields) (C.assigned_names before) (item_at path 0) a.field) _ is))
     (expression_knows names 16 (item_at path 1) a.value (then_passed (C.assigned_check (C.field_names fields) (C.assigned_names before) (item_at path 0) a.field) _ is))
 
 assignments_know : (fields : List Field) (names : C.Names) (path : Path) (pairs : List Assignment) → Passed (C.assignments_check fields names path pairs)
@@ -145,7 +148,8 @@ assignments_know : (fields : List Field) (names : C.Names) (path : Path) (pairs 
 assignments_know fields names path pairs is = each_passes (C.assignment_check fields names) _ (assignment_knows fields names) path [] 0 pairs is
 
 row_knows : (scope : C.Scope) (names : C.Names) (path : Path) (class : ℕ) (key : Expression) (pairs : List Assignment) (last : Decoded ⊤)
-    → Passed (C.class_check scope (item_at path 1) class >>= λ _. C.whole_expression_check names (item_at path 2) key >>= λ _. C.assignments_check (C.fields_of scope class) names (item_at path 3) pairs >>= λ _. last)
+    → Passed (C.class_check scope (item_at path 1) class >>= λ _. C.whole_expression_check names (item_at path 2) key >>= λ _. C.assignments_check
+    (C.fields_of scope class) names (item_at path 3) pairs >>= λ _. last)
     → W.knows_row scope names class key pairs ≡ true
 row_knows scope names path class key pairs last is =
     let key_and_pairs = then_passed (C.class_check scope (item_at path 1) class) _ is in
@@ -154,11 +158,13 @@ row_knows scope names path class key pairs last is =
     (both_are (expression_knows names 16 (item_at path 2) key (first_passed (C.whole_expression_check names (item_at path 2) key) _ key_and_pairs))
     (assignments_know (C.fields_of scope class) names (item_at path 3) pairs (first_passed (C.assignments_check (C.fields_of scope class) names (item_at path 3) pairs) last just_pairs)))
 
-create_knows : (scope : C.Scope) (names : C.Names) (path : Path) (class : ℕ) (key : Expression) (pairs : List Assignment) → Passed (C.create_check scope names path class key pairs) → W.knows_row scope names class key pairs ≡ true
+create_knows : (scope : C.Scope) (names : C.Names) (path : Path) (class : ℕ) (key : Expression) (pairs : List Assignment) → Passed (C.create_check scope names path class key pairs)
+    → W.knows_row scope names class key pairs ≡ true
 unfolding C.create_check
 create_knows scope names path class key pairs is = row_knows scope names path class key pairs _ is
 
-update_knows : (scope : C.Scope) (names : C.Names) (path : Path) (class : ℕ) (key : Expression) (pairs : List Assignment) → Passed (C.update_check scope names path class key pairs) → W.knows_row scope names class key pairs ≡ true
+update_knows : (scope : C.Scope) (names : C.Names) (path : Path) (class : ℕ) (key : Expression) (pairs : List Assignment) → Passed (C.update_check scope names path class key pairs)
+    → W.knows_row scope names class key pairs ≡ true
 unfolding C.update_check
 update_knows scope names path class key pairs is =
     let key_and_pairs = then_passed (C.class_check scope (item_at path 1) class) _ is in
@@ -166,7 +172,8 @@ update_knows scope names path class key pairs is =
     (both_are (expression_knows names 16 (item_at path 2) key (first_passed (C.whole_expression_check names (item_at path 2) key) _ key_and_pairs))
     (assignments_know (C.fields_of scope class) names (item_at path 3) pairs (then_passed (C.whole_expression_check names (item_at path 2) key) _ key_and_pairs)))
 
-delete_knows : (scope : C.Scope) (names : C.Names) (path : Path) (class : ℕ) (key : Expression) → Passed (C.delete_check scope names path class key) → (W.knows_class scope class && W.knows_expression names key) ≡ true
+delete_knows : (scope : C.Scope) (names : C.Names) (path : Path) (class : ℕ) (key : Expression) → Passed (C.delete_check scope names path class key)
+    → (W.knows_class scope class && W.knows_expression names key) ≡ true
 unfolding C.delete_check
 delete_knows scope names path class key is =
     both_are (numbered (length scope.classes) (item_at path 1) class (first_passed (C.class_check scope (item_at path 1) class) _ is))
@@ -175,7 +182,8 @@ delete_knows scope names path class key is =
 arguments_know : (names : C.Names) (path : Path) (arguments : List Expression) → Passed (C.arguments_check names path arguments) → list_all (λ e. W.knows_expression names e) arguments ≡ true
 unfolding C.arguments_check
 arguments_know names path arguments is =
-    each_passes (λ _. C.whole_expression_check names) _ (λ before path' e. expression_knows names 16 path' e) path [] 0 arguments (then_passed _ (C.each_check (λ _. C.whole_expression_check names) path [] 0 arguments) is)
+    each_passes (λ _. C.whole_expression_check names) _ (λ before path' e. expression_knows names 16 path' e) path [] 0 arguments
+    (then_passed _ (C.each_check (λ _. C.whole_expression_check names) path [] 0 arguments) is)
 
 signal_knows : (names : C.Names) (path : Path) (x : Name) (arguments : List Expression) → Passed (C.signal_check names path x arguments) → list_all (λ e. W.knows_expression names e) arguments ≡ true
 unfolding C.signal_check
@@ -215,7 +223,8 @@ module _ (scope : C.Scope) (check : C.StatementCheck) (sure : (names : C.Names) 
   body_knows names path i (s then rest) is =
       both_are (sure names (item_at path i) s (first_passed (check names (item_at path i) s) _ is)) (body_knows names path (suc i) rest (then_passed (check names (item_at path i) s) _ is))
 
-  when_knows : (names : C.Names) (path : Path) (e : Expression) (t f : Body) → Passed (C.when_check check names path e t f) → (W.knows_expression names e && (W.knows_body scope names t && W.knows_body scope names f)) ≡ true
+  when_knows : (names : C.Names) (path : Path) (e : Expression) (t f : Body) → Passed (C.when_check check names path e t f)
+      → (W.knows_expression names e && (W.knows_body scope names t && W.knows_body scope names f)) ≡ true
   unfolding C.when_check
   when_knows names path e t f is =
       let bodies = then_passed (C.whole_expression_check names (item_at path 1) e) _ is in
@@ -297,7 +306,8 @@ whole_body_knows scope names path b is = body_knows scope (C.statement_check sco
 
 -- ---- rules
 
-query_knows : (classes : ℕ) (names : C.Names) (first second third : Path) (q : Query) → Passed (C.query_check classes names first second third q) → W.knows_over classes names q.name q.class q.predicate ≡ true
+query_knows : (classes : ℕ) (names : C.Names) (first second third : Path) (q : Query) → Passed (C.query_check classes names first second third q)
+    → W.knows_over classes names q.name q.class q.predicate ≡ true
 unfolding C.query_check
 query_knows classes names first second third q is =
     let named = then_passed (C.new_name_check (C.taken names) first q.name) _ is in
@@ -338,12 +348,15 @@ turned x [] = refl
 turned x (n ∷ ns) = ap (λ b. b || C.is_known ns x) (bytes_equiv.symm n x) ∙ ap (λ b. bytes_eq x n || b) (turned x ns)
 
 -- names stay distinct where each item's check refuses the names before it
-each_distinct : {A : Type 0} (check : List A → Path → A → Decoded ⊤) (name : A → Name) → ((before : List A) (path : Path) (x : A) → Passed (check before path x) → C.is_known (map name before) (name x) ≡ false)
+each_distinct : {A : Type 0} (check : List A → Path → A → Decoded ⊤) (name : A → Name)
+    → ((before : List A) (path : Path) (x : A) → Passed (check before path x) → C.is_known (map name before) (name x) ≡ false)
     → (path : Path) (before : List A) (i : ℕ) (xs : List A) → Passed (C.each_check check path before i xs) → IsDistinct bytes_eq (map name before) → IsDistinct bytes_eq (map name (before ++ xs))
 each_distinct check name differs path before i [] is distinct = subst (λ ys. IsDistinct bytes_eq (map name ys)) (sym (append-nil before)) distinct
 each_distinct check name differs path before i (x ∷ xs) is distinct =
-    let new : list_any (bytes_eq (name x)) (map name before) ≡ false = sym (turned (name x) (map name before)) ∙ differs before (item_at path i) x (first_passed (check before (item_at path i) x) _ is) in
-    let more : IsDistinct bytes_eq (map name (before ++ x ∷ [])) = subst (IsDistinct bytes_eq) (sym (map-append name before (x ∷ []))) (IsDistinct-push bytes_equiv (map name before) (name x) distinct new) in
+    let new : list_any (bytes_eq (name x)) (map name before) ≡ false = sym (turned (name x) (map name before))
+    ∙ differs before (item_at path i) x (first_passed (check before (item_at path i) x) _ is) in
+    let more : IsDistinct bytes_eq (map name (before ++ x ∷ [])) = subst (IsDistinct bytes_eq) (sym (map-append name before (x ∷ [])))
+    (IsDistinct-push bytes_equiv (map name before) (name x) distinct new) in
     subst (λ ys. IsDistinct bytes_eq (map name ys)) (append_assoc before (x ∷ []) xs)
     (each_distinct check name differs path (before ++ x ∷ []) (suc i) xs (then_passed (check before (item_at path i) x) _ is) more)
 

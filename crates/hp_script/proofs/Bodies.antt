@@ -39,17 +39,20 @@ inner_two f a b = ap (λ x. f x (inner b)) (inner_is a) ∙ ap (λ x. f (read_bo
 pub if_statement : (e : Box Expr Global) (a b : Vec Stmt Global) → statement (If e a b) ≡ R.when (expression e.value) (body_of (map statement a.items)) (body_of (map statement b.items))
 if_statement e a b = inner_two (λ x y. R.when (expression e.value) x y) a b
 
-pub each_statement : (x : String Global) (name : List ℕ) (class : ℕ) (e : Box Expr Global) (body : Vec Stmt Global) → string_bytes x ≡ name → statement (Each x class e body) ≡ R.each name class (expression e.value) (body_of (map statement body.items))
+pub each_statement : (x : String Global) (name : List ℕ) (class : ℕ) (e : Box Expr Global) (body : Vec Stmt Global) → string_bytes x ≡ name
+    → statement (Each x class e body) ≡ R.each name class (expression e.value) (body_of (map statement body.items))
 each_statement x name class e body is = ap (λ y. R.each y class (expression e.value) (inner body)) is ∙ ap (λ b. R.each name class (expression e.value) b) (inner_is body)
 
 pub for_statement : (x : String Global) (name : List ℕ) (body : Vec Stmt Global) → string_bytes x ≡ name → statement (For x body) ≡ R.for_answer name (body_of (map statement body.items))
 for_statement x name body is = ap (λ y. R.for_answer y (inner body)) is ∙ ap (λ b. R.for_answer name b) (inner_is body)
 
-pub with_statement : (x : String Global) (name : List ℕ) (class : ℕ) (e : Box Expr Global) (body : Vec Stmt Global) → string_bytes x ≡ name → statement (With x class e body) ≡ R.with_object name class (expression e.value) (body_of (map statement body.items))
+pub with_statement : (x : String Global) (name : List ℕ) (class : ℕ) (e : Box Expr Global) (body : Vec Stmt Global) → string_bytes x ≡ name
+    → statement (With x class e body) ≡ R.with_object name class (expression e.value) (body_of (map statement body.items))
 with_statement x name class e body is = ap (λ y. R.with_object y class (expression e.value) (inner body)) is ∙ ap (λ b. R.with_object name class (expression e.value) b) (inner_is body)
 
 pub sub_statement : (a b : Vec Stmt Global) → statement (Sub a b) ≡ R.subtransaction (body_of (map statement a.items)) (body_of (map statement b.items))
 sub_statement a b = inner_two (λ x y. R.subtransaction x y) a b
 
-pub let_statement : (x : String Global) (name : List ℕ) (a : Aggregate) (body : Vec Stmt Global) → string_bytes x ≡ name → statement (Let x a body) ≡ R.let_value name (aggregate a) (body_of (map statement body.items))
+pub let_statement : (x : String Global) (name : List ℕ) (a : Aggregate) (body : Vec Stmt Global) → string_bytes x ≡ name
+    → statement (Let x a body) ≡ R.let_value name (aggregate a) (body_of (map statement body.items))
 let_statement x name a body is = ap (λ y. R.let_value y (aggregate a) (inner body)) is ∙ ap (λ b. R.let_value name (aggregate a) b) (inner_is body)

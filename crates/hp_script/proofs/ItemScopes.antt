@@ -55,7 +55,8 @@ its_scope : (l : R.Library) → IsScriptScope l (library_scope l)
 its_scope l = record { classes = refl; rules = length-map l.rules (λ (r : R.Rule). r.name); in_action = refl; queries = refl }
 
 -- a body that was read where the library stands is well formed
-pub read_body : (version : Version) (l : R.Library) (path : Path) (d : Data) (ss : List R.Statement) → statements_at (library_scope l) (in_script version) path d ≡ Ok ss → script_body_check l [] (body_of ss) ≡ Ok tt
+pub read_body : (version : Version) (l : R.Library) (path : Path) (d : Data) (ss : List R.Statement) → statements_at (library_scope l) (in_script version) path d ≡ Ok ss
+    → script_body_check l [] (body_of ss) ≡ Ok tt
 read_body version l path d ss read = (body_passes version l (library_scope l) (its_scope l) path d).fact ss read []
 
 -- what a list stands for is as long

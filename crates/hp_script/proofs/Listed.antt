@@ -17,7 +17,8 @@ pub member_count_view : (es : List Entry) → members_len (members_view es) ≡ 
 member_count_view es = members_len-members_view es
 
 -- a list whose items are read in order, once one more is read
-pub read_more : {A D X Y : Type 0} (item : X → A) (form : Y → D) (read : List A → Path → D → Decoded A) (path at : Path) (all : Decoded (List A)) (xs seen new : List X) (x : X) (ys : List Y) (i : ℕ) (y : Y)
+pub read_more : {A D X Y : Type 0} (item : X → A) (form : Y → D) (read : List A → Path → D → Decoded A) (path at : Path) (all : Decoded (List A))
+    (xs seen new : List X) (x : X) (ys : List Y) (i : ℕ) (y : Y)
     → i < length ys → y ≡ get_or ys i y → seen ≡ xs → at ≡ item_at path i → read (map item seen) at (form y) ≡ Ok (item x) → new ≡ xs ++ x ∷ []
     → read_from read path (map item xs) i (map form (drop i ys)) ≡ all
     → read_from read path (map item new) (i + 1) (map form (drop (i + 1) ys)) ≡ all

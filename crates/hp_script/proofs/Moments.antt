@@ -1,5 +1,6 @@
 -- Next moments, and lists of due ones.
-use Rattle.std.proofs.Common.{◌≡◌, ℕ, zero, suc, ◌+◌, ◌-◌, ◌*◌, ◌/◌, ◌%◌, ◌^◌, ◌<◌, ◌≤◌, ◌||◌, min, length, Bool, true, false, cond, List, [], ◌∷◌, ◌++◌, Option, Some, None, filter, map, take, get_or, append-nil, append_assoc, inl, inr, refl, sym, ap, ◌∙◌, arith}
+use Rattle.std.proofs.Common.{◌≡◌, ℕ, zero, suc, ◌+◌, ◌-◌, ◌*◌, ◌/◌, ◌%◌, ◌^◌, ◌<◌, ◌≤◌, ◌||◌, min, length, Bool, true, false, cond, List, [], ◌∷◌, ◌++◌, Option, Some, None}
+use Rattle.std.proofs.Common.{filter, map, take, get_or, append-nil, append_assoc, inl, inr, refl, sym, ap, ◌∙◌, arith}
 use Rattle.std.proofs.lemmas.Bool.{cases_lt, lt-ltb, le-ltb}
 use Rattle.std.proofs.lemmas.List.{length-append, take_more, map-append}
 use Rattle.std.proofs.lemmas.List.Folds.{list_any-append}
@@ -51,7 +52,8 @@ next_multiple first (suc period) after le pos = next_above first period after le
 
 first_is : (first period : ℕ) → is_multiple first period first ≡ true
 first_is first zero = grind (arith, nat_tests)
-first_is first (suc period) = named_at first period first (omega arith) (ap (λ x. x % suc period) (let a : first - first ≡ 0 * suc period + 0 = omega arith in a) ∙ mod-mul-add 0 (suc period) 0 (omega arith))
+first_is first (suc period) = named_at first period first (omega arith) (ap (λ x. x % suc period) (let a : first - first ≡ 0 * suc period + 0 = omega arith in a)
+    ∙ mod-mul-add 0 (suc period) 0 (omega arith))
 
 none_before : (first period m : ℕ) → m < first → is_multiple first period m ≡ false
 none_before first zero m lt = grind (arith, nat_tests)
@@ -130,7 +132,8 @@ next_of_more rs i d after a b lt ha hb =
     let front = map rule (take i rs) in
     let r = rule (get_or rs i d) in
     next_as (λ m. names_moment front m || mentions r.event (moment_reached m)) (names_moment (map rule (take (i + 1) rs))) after (earlier a b)
-    (λ m. ap (λ (l : List Rule). names_moment (map rule l) m) (take_more rs i d lt) ∙ ap (λ (l : List R.Rule). names_moment l m) (map-append rule (take i rs) (get_or rs i d ∷ [])) ∙ names_one_more front r m)
+    (λ m. ap (λ (l : List Rule). names_moment (map rule l) m) (take_more rs i d lt) ∙ ap (λ (l : List R.Rule). names_moment l m) (map-append rule (take i rs) (get_or rs i d ∷ []))
+    ∙ names_one_more front r m)
     (next_of_both (names_moment front) (λ t. mentions r.event (moment_reached t)) after a b ha hb)
 
 -- ---- lists of due moments

@@ -39,10 +39,12 @@ items_of version items library =
 untimed_items : (depth : ℕ) (classes : List ClassDef) (heads : List RuleHead) (items : Data) (version : Version) (rules : List R.Rule)
     → rules_at version (script_scope classes heads) (under_root (codes "rules")) heads ≡ Ok rules
     → untimed (items_of version items (record { classes = classes; rules = rules; depth_limit = depth }))
-    ≡ (units_at version rules (script_scope classes heads) (under_root (codes "items")) items >>= λ schedule. Ok (record { library = record { classes = classes; rules = rules; depth_limit = depth }; units = schedule.units }))
+    ≡ (units_at version rules (script_scope classes heads) (under_root (codes "items")) items >>= λ schedule. Ok
+    (record { library = record { classes = classes; rules = rules; depth_limit = depth }; units = schedule.units }))
 untimed_items depth classes heads items version rules read =
     let library : R.Library = record { classes = classes; rules = rules; depth_limit = depth } in
-    ap (λ scope. untimed (units_at version rules scope (under_root (codes "items")) items >>= λ schedule. Ok (record { script = record { library = library; units = schedule.units }; version = version; clock = schedule.clock })))
+    ap (λ scope. untimed (units_at version rules scope (under_root (codes "items")) items >>= λ schedule. Ok
+    (record { script = record { library = library; units = schedule.units }; version = version; clock = schedule.clock })))
     (named_by_heads version classes heads rules depth (under_root (codes "rules")) read)
     ∙ untimed_then (units_at version rules (script_scope classes heads) (under_root (codes "items")) items) _ _ (λ schedule. refl)
 

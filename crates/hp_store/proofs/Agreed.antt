@@ -1,5 +1,6 @@
 -- Whether a list has the objects of a part of a class.
-use Rattle.std.proofs.Common.{◌≡◌, refl, ⊎_elim, ap, ap₂, sym, ◌∙◌, subst, ℕ, zero, suc, ◌<◌, ◌+◌, ℤ, pos, Bool, true, false, ◌&&◌, ◌||◌, List, [], ◌∷◌, map, length, get_or, Option, Some, None, IsTrue, int_eq, Result, Ok, Err, arith}
+use Rattle.std.proofs.Common.{◌≡◌, refl, ⊎_elim, ap, ap₂, sym, ◌∙◌, subst, ℕ, zero, suc, ◌<◌, ◌+◌, ℤ, pos, Bool, true, false, ◌&&◌, ◌||◌, List, [], ◌∷◌, map, length, get_or}
+use Rattle.std.proofs.Common.{Option, Some, None, IsTrue, int_eq, Result, Ok, Err, arith}
 use Rattle.std.specs.Prelude.{All}
 use Rattle.std.specs.Ordering.{is_eq, is_lt, int_cmp, ordering_reverse}
 use Rattle.std.specs.Result.{is_ok}
@@ -72,7 +73,8 @@ all_pass test [] each = refl
 all_pass test (x ∷ xs) each = ap₂ (λ a b. a && b) (each x) (all_pass test xs each)
 
 -- keys that all pass, and cover the class
-pub agree_covers : (test : ℤ → Bool) (p : ClassPart) (class : ℕ) (cells : Cells) (keys : List ℤ) (r : Bool) → r ≡ list_all test keys → Covers (is_among keys) p class cells → IsTrue r → Covers test p class cells
+pub agree_covers : (test : ℤ → Bool) (p : ClassPart) (class : ℕ) (cells : Cells) (keys : List ℤ) (r : Bool) → r ≡ list_all test keys → Covers (is_among keys) p class cells
+    → IsTrue r → Covers test p class cells
 agree_covers test p class cells keys r is covers holds key fails = covers key (not_among test keys key (sym is ∙ holds) fails)
 
 pub agree_always : (test : ℤ → Bool) (keys : List ℤ) (r : Bool) → r ≡ false → r ≡ list_all test keys → ((key : ℤ) → test key ≡ true) → IsTrue false
@@ -101,18 +103,23 @@ both_second : (a b : Bool) → (a && b) ≡ true → b ≡ true
 both_second true b h = h
 both_second false b h = cc
 
-all_shown : (cells : Cells) (p : ClassPart) (class : ℕ) (objects : List Object) → list_all (λ o. is_shown cells p class (keyed_row o)) objects ≡ true → All (IsShown cells p class) (map keyed_row objects)
+all_shown : (cells : Cells) (p : ClassPart) (class : ℕ) (objects : List Object) → list_all (λ o. is_shown cells p class (keyed_row o)) objects ≡ true
+    → All (IsShown cells p class) (map keyed_row objects)
 all_shown cells p class [] all = All-nil (IsShown cells p class)
 all_shown cells p class (o ∷ os) all =
     let shown = is_shown cells p class (keyed_row o) in
     let rest = list_all (λ d. is_shown cells p class (keyed_row d)) os in
     let row = holds_row o.row (cells (object_cell class o.key)) in
     let belonging = says true (belongs p (keyed_row o)) in
-    All-cons (IsShown cells p class) (keyed_row o) (map keyed_row os)
-    (row_held o.row (cells (object_cell class o.key)) (both_first row belonging (both_first shown rest all)), said true (belongs p (keyed_row o)) (both_second row belonging (both_first shown rest all)))
+    All-cons (IsShown cells p class) (keyed_row o) (map keyed_row os) (
+      row_held o.row (cells (object_cell class o.key)) (both_first row belonging (both_first shown rest all)),
+      said true (belongs p (keyed_row o))
+          (both_second row belonging (both_first shown rest all)),
+    )
     (all_shown cells p class os (both_second shown rest all))
 
-shown_all : (cells : Cells) (p : ClassPart) (class : ℕ) (objects : List Object) → All (IsShown cells p class) (map keyed_row objects) → list_all (λ o. is_shown cells p class (keyed_row o)) objects ≡ true
+shown_all : (cells : Cells) (p : ClassPart) (class : ℕ) (objects : List Object) → All (IsShown cells p class) (map keyed_row objects)
+    → list_all (λ o. is_shown cells p class (keyed_row o)) objects ≡ true
 shown_all cells p class [] all = refl
 shown_all cells p class (o ∷ os) all =
     let here = All-head (IsShown cells p class) (keyed_row o) (map keyed_row os) all in
@@ -131,10 +138,12 @@ module _ (cells : Cells) (p : ClassPart) (class : ℕ) where
           ap (λ k. belongs_in p k (cells (object_cell class k))) ((Decides-int_eq key o.key).0 is) ∙ ap (belongs_in p o.key) here.0 ∙ here.1
       by later false is h = later (All-tail (IsShown cells p class) o os shown) h
 
-  pub part_agreed : (objects : List KeyedRow) → IsStrictlySortedBy int_cmp (keys_of objects) → All (IsShown cells p class) objects → Covers (agrees_at cells p class (keys_of objects)) p class cells → ArePart cells class p objects
+  pub part_agreed : (objects : List KeyedRow) → IsStrictlySortedBy int_cmp (keys_of objects) → All (IsShown cells p class) objects
+      → Covers (agrees_at cells p class (keys_of objects)) p class cells → ArePart cells class p objects
   part_agreed objects rise shown covers = record { rise = rise; has = λ key. has key (agrees_at cells p class (keys_of objects) key) refl; rows = λ k d low. (shown k d low).0 }
     where
-      by : (key : ℤ) (b : Bool) → is_among (keys_of objects) key ≡ b → belongs_in p key (cells (object_cell class key)) ≡ Ok false → belongs_in p key (cells (object_cell class key)) ≡ Ok (is_among (keys_of objects) key)
+      by : (key : ℤ) (b : Bool) → is_among (keys_of objects) key ≡ b → belongs_in p key (cells (object_cell class key)) ≡ Ok false
+          → belongs_in p key (cells (object_cell class key)) ≡ Ok (is_among (keys_of objects) key)
       by key true is none = shown_at objects key shown is ∙ ap Ok (sym is)
       by key false is none = none ∙ ap Ok (sym is)
 
@@ -199,7 +208,8 @@ none_at : (key : ℤ) (objects : List Object) → AllWithin (λ (o : Object). in
 none_at key [] none = refl
 none_at key (o ∷ os) none = sym (ap₂ (λ a b. a || b) (none 0 o (omega arith) (omega arith)) (sym (none_at key os (λ k d low high. none (suc k) d (omega arith) (omega arith)))))
 
-pub key_missed : (key : ℤ) (objects : List Object) (i : ℕ) → AllWithin (λ (o : Object). int_cmp o.key key ≡ Less) objects 0 i → AllWithin (λ (o : Object). int_cmp o.key key ≡ Greater) objects i (length objects)
+pub key_missed : (key : ℤ) (objects : List Object) (i : ℕ) → AllWithin (λ (o : Object). int_cmp o.key key ≡ Less) objects 0 i
+    → AllWithin (λ (o : Object). int_cmp o.key key ≡ Greater) objects i (length objects)
     → false ≡ is_among (keys_of (map keyed_row objects)) key
 key_missed key objects i front back = none_at key objects (λ k d low high. ⊎_elim
     (λ before. other key (get_or objects k d).key (ap (λ r. is_eq (ordering_reverse r)) (front k d low before)))
@@ -210,7 +220,8 @@ abbrev key_of : Object → ℤ
 key_of o = o.key
 
 -- the keys of neighbours
-pub rising_at : (objects : List Object) (i j : ℕ) (d e : Object) → IsStrictlySortedBy int_cmp (keys_of (map keyed_row objects)) → i < j → j < length objects → int_cmp (get_or objects i d).key (get_or objects j e).key ≡ Less
+pub rising_at : (objects : List Object) (i j : ℕ) (d e : Object) → IsStrictlySortedBy int_cmp (keys_of (map keyed_row objects)) → i < j → j < length objects
+    → int_cmp (get_or objects i d).key (get_or objects j e).key ≡ Less
 rising_at objects i j d e rise before within =
     ap₂ int_cmp (sym (get_or-map key_of objects i d (pos 0) (omega (arith, before, within)))) (sym (get_or-map key_of objects j e (pos 0) within))
     ∙ Less-from_sorted int_cmp (map key_of objects) i j (pos 0) (subst (IsStrictlySortedBy int_cmp) (object_keys_are objects) rise) before (subst (λ n. j < n) (sym (length-map objects key_of)) within)
@@ -219,12 +230,14 @@ falls : (objects : List Object) → IsStrictlySortedBy int_cmp (keys_of (map key
 falls objects rise k d low high =
     ap is_lt (int_cmp_total.antisymm (get_or objects (k + 1) d).key (get_or objects k d).key ∙ ap ordering_reverse (rising_at objects k (k + 1) d d rise (omega arith) high))
 
-pub key_listed : (objects : List Object) (key k : ℤ) (r : Result ℕ ℕ) (b : Bool) → b ≡ is_ok r → k ≡ key → IsStrictlySortedBy int_cmp (keys_of (map keyed_row objects)) → IsSearchInRange r (length objects)
+pub key_listed : (objects : List Object) (key k : ℤ) (r : Result ℕ ℕ) (b : Bool) → b ≡ is_ok r → k ≡ key → IsStrictlySortedBy int_cmp (keys_of (map keyed_row objects))
+    → IsSearchInRange r (length objects)
     → IsBinarySearchResult (λ (o : Object). int_cmp o.key k) objects r → b ≡ is_among (keys_of (map keyed_row objects)) key
 key_listed objects key k (Ok i) b is same rise within found = is ∙ key_at key objects i within (λ d. ap (int_cmp (get_or objects i d).key) (sym same) ∙ found d)
 key_listed objects key k (Err i) b is same rise within found =
     let split = found (searchable_from_sorted int_cmp_total (λ (o : Object). o.key) objects k (falls objects rise)) in
-    is ∙ key_missed key objects i (λ n d low high. ap (int_cmp (get_or objects n d).key) (sym same) ∙ split.0 n d low high) (λ n d low high. ap (int_cmp (get_or objects n d).key) (sym same) ∙ split.1 n d low high)
+    is ∙ key_missed key objects i (λ n d low high. ap (int_cmp (get_or objects n d).key) (sym same) ∙ split.0 n d low high)
+    (λ n d low high. ap (int_cmp (get_or objects n d).key) (sym same) ∙ split.1 n d low high)
 
 -- ---- keys that rise
 

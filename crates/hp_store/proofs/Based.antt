@@ -1,5 +1,6 @@
 -- A base's cells.
-use Rattle.std.proofs.Common.{◌≡◌, refl, ap, sym, ◌∙◌, subst, ℕ, zero, suc, ℤ, ◌<◌, ◌≤◌, Bool, true, false, ◌&&◌, cond, List, [], ◌∷◌, ◌++◌, length, get_or, set, Option, Some, None, Result, Ok, Err, OnErr, is_some, int_eq, Bor, arith}
+use Rattle.std.proofs.Common.{◌≡◌, refl, ap, sym, ◌∙◌, subst, ℕ, zero, suc, ℤ, ◌<◌, ◌≤◌, Bool, true, false, ◌&&◌, cond, List, [], ◌∷◌, ◌++◌, length, get_or, set, Option, Some}
+use Rattle.std.proofs.Common.{None, Result, Ok, Err, OnErr, is_some, int_eq, Bor, arith}
 use Rattle.std.specs.Prelude.{◌==◌, option_map, if◌then◌else◌}
 use Rattle.std.specs.Option.{option_copied}
 use Rattle.std.specs.Ordering.{nat_cmp, int_cmp}
@@ -103,7 +104,8 @@ pub object_set : (b n : Base) (ts : List Table) (c : Cell) (class : ℕ) (key k 
     → (q : C.Cell) → base_cells n q ≡ (if same_cell (cell c) q then change w else base_cells b q)
 object_set b n ts c class key k t u w placed statuses detectors classes is same step q = at q ∙ ap (λ d. if same_cell (cell d) q then change w else base_cells b q) (sym is)
   where
-    found : (d : ℕ) (l : ℤ) (s : Bool) → (class == d) ≡ s → option_map cell_value (lookup (is_at (int_cmp l)) (if s then u.entries else table_at ts d)) ≡ (if s && int_eq key l then change w else base_cells b (C.object_cell d l))
+    found : (d : ℕ) (l : ℤ) (s : Bool) → (class == d) ≡ s
+        → option_map cell_value (lookup (is_at (int_cmp l)) (if s then u.entries else table_at ts d)) ≡ (if s && int_eq key l then change w else base_cells b (C.object_cell d l))
     found d l true e =
         ap (option_map cell_value) (step l) ∙ mapped_choice (is_at (int_cmp k) l) w (get int_cmp t l)
         ∙ (λ i. if (ap (λ j. is_at (int_cmp j) l) same ∙ int_at key l) i then change w else option_map cell_value (lookup (is_at (int_cmp l)) (here b ts class t placed d e i)))

@@ -1,5 +1,6 @@
 -- The number of a class's objects: there is one of it, and what a change of a cell makes of it.
-use Rattle.std.proofs.Common.{◌≡◌, refl, ap, ap₂, sym, ◌∙◌, subst, ℕ, suc, ◌+◌, ◌-◌, ◌≤◌, ℤ, Bool, true, false, true≢false, ◌&&◌, ◌||◌, cond, List, [], ◌∷◌, ◌++◌, map, length, Option, Some, None, is_some, int_eq, Result, Ok, Err, arith}
+use Rattle.std.proofs.Common.{◌≡◌, refl, ap, ap₂, sym, ◌∙◌, subst, ℕ, suc, ◌+◌, ◌-◌, ◌≤◌, ℤ, Bool, true, false, true≢false, ◌&&◌, ◌||◌, cond, List, [], ◌∷◌, ◌++◌, map, length}
+use Rattle.std.proofs.Common.{Option, Some, None, is_some, int_eq, Result, Ok, Err, arith}
 use Rattle.std.specs.Prelude.{◌==◌, filter, IfOk, if◌then◌else◌}
 use Rattle.std.specs.declared.cmp.Ordering.{Ordering}
 use Rattle.std.specs.declared.cmp.Ordering.TheVariants.{Less, Equal, Greater}
@@ -150,7 +151,8 @@ pub record Recounts (beneath : Cells) (class : ℕ) (layer : Entries) (n : ℕ) 
   pub of : AreOfClass class left
 
 -- before the first
-pub recounts_first : (beneath : Cells) (class : ℕ) (layer : Entries) (n : ℕ) (left : Entries) → left ≡ class_entries class layer → KeysRise (class_entries class layer) → IsCount beneath class n → Recounts beneath class layer n left
+pub recounts_first : (beneath : Cells) (class : ℕ) (layer : Entries) (n : ℕ) (left : Entries) → left ≡ class_entries class layer → KeysRise (class_entries class layer)
+    → IsCount beneath class n → Recounts beneath class layer n left
 recounts_first beneath class layer n left is rise count = record {
   cells = beneath;
   count = count;
@@ -175,7 +177,8 @@ turned true o v c none = ap (changed v) (none refl)
 turned false o v c none = refl
 
 -- with one change more
-step : (beneath : Cells) (class : ℕ) (layer : Entries) (n m : ℕ) (c : Cell) (v : Option CellValue) (left : Entries) → m ≡ n + one_if (is_some v) - one_if (is_some (beneath c)) → Recounts beneath class layer n ((c, v) ∷ left)
+step : (beneath : Cells) (class : ℕ) (layer : Entries) (n m : ℕ) (c : Cell) (v : Option CellValue) (left : Entries) → m ≡ n + one_if (is_some v) - one_if (is_some (beneath c))
+    → Recounts beneath class layer n ((c, v) ∷ left)
     → Recounts beneath class layer m left
 step beneath class layer n m (rule_cell r) v left is so_far = absurd (true≢false (sym so_far.of.0))
 step beneath class layer n m (detector_cell r) v left is so_far = absurd (true≢false (sym so_far.of.0))
@@ -217,7 +220,8 @@ some_change : (x : Option Held) → is_some (change x) ≡ is_some x
 some_change None = refl
 some_change (Some v) = refl
 
-pub recounts_next : (beneath : Cells) (class : ℕ) (layer : Entries) (n m : ℕ) (it t : Kept) (d : Given) (x : Option Held) (was : Bool) → Recounts beneath class layer n (map entry it) → it ≡ (d, x) ∷ t → was ≡ is_some (beneath (cell d))
+pub recounts_next : (beneath : Cells) (class : ℕ) (layer : Entries) (n m : ℕ) (it t : Kept) (d : Given) (x : Option Held) (was : Bool)
+    → Recounts beneath class layer n (map entry it) → it ≡ (d, x) ∷ t → was ≡ is_some (beneath (cell d))
     → m ≡ n + one_if (is_some x) - one_if was → Recounts beneath class layer m (map entry t)
 recounts_next beneath class layer n m it t d x was so_far steps is number =
     step beneath class layer n m (cell d) (change x) (map entry t)
@@ -289,7 +293,8 @@ counts_over base other class ((c, v) ∷ es) n agree p q = more c agree (counts_
         Result : ℕ → Type 0
         Result d = (m : ℕ) × IsCount (over base (changes ((object_cell d key, v) ∷ es))) class m × IsCount (over other (changes ((object_cell d key, v) ∷ es))) class m
 
-        agreed : (d : ℕ) → d ≡ class → ((k : ℤ) → is_some (changes ((object_cell d key, v) ∷ es) (object_cell class k)) ≡ true → base (object_cell class k) ≡ other (object_cell class k)) → Result class
+        agreed : (d : ℕ) → d ≡ class → ((k : ℤ) → is_some (changes ((object_cell d key, v) ∷ es) (object_cell class k)) ≡ true → base (object_cell class k) ≡ other (object_cell class k))
+            → Result class
         agreed d is at =
             let m = so_far.0 + one_if (is_some v) - one_if (is_some (over base (changes es) (object_cell class key))) in
             let here : base (object_cell class key) ≡ other (object_cell class key) =
@@ -297,7 +302,8 @@ counts_over base other class ((c, v) ∷ es) n agree p q = more c agree (counts_
               m,
               with base (object_cell class key) m (count_set (over base (changes es)) class key v so_far.0 m so_far.1 refl),
               with other (object_cell class key) m
-                  (count_set (over other (changes es)) class key v so_far.0 m so_far.2 (ap (λ o. so_far.0 + one_if (is_some v) - one_if (is_some (changed o (changes es (object_cell class key))))) here)),
+                  (count_set (over other (changes es)) class key v so_far.0 m so_far.2
+                  (ap (λ o. so_far.0 + one_if (is_some v) - one_if (is_some (changed o (changes es (object_cell class key))))) here)),
             )
 
         by : (b : Bool) → (class == of) ≡ b → Result of

@@ -1,5 +1,6 @@
 -- Keys of a class among which a part's objects are.
-use Rattle.std.proofs.Common.{◌≡◌, refl, ap, ap₂, sym, ◌∙◌, subst, ℕ, ℤ, Bool, true, false, not, ◌&&◌, ◌||◌, cond, List, [], ◌∷◌, map, length, take, get_or, ◌+◌, ◌<◌, Option, Some, None, IsTrue, int_eq, int_lt, Ok}
+use Rattle.std.proofs.Common.{◌≡◌, refl, ap, ap₂, sym, ◌∙◌, subst, ℕ, ℤ, Bool, true, false, not, ◌&&◌, ◌||◌, cond, List, [], ◌∷◌, map, length, take, get_or, ◌+◌, ◌<◌, Option, Some}
+use Rattle.std.proofs.Common.{None, IsTrue, int_eq, int_lt, Ok}
 use Rattle.std.specs.Prelude.{◌==◌, option_map, if◌then◌else◌}
 use Rattle.std.specs.declared.cmp.Ordering.{Ordering}
 use Rattle.std.specs.declared.cmp.Ordering.TheVariants.{Less, Equal, Greater}
@@ -74,7 +75,8 @@ covers_between keys p class cells low high past none key out = by (lies_between 
     by true is = ap (belongs_in p key) (none key is out)
     by false is = gone (cells (object_cell class key)) is
 
-pub covers_over : (test : ℤ → Bool) (p : ClassPart) (class : ℕ) (base : Cells) (layer : Changes) → Covers test p class base → Covers test p class (over no_cells layer) → Covers test p class (over base layer)
+pub covers_over : (test : ℤ → Bool) (p : ClassPart) (class : ℕ) (base : Cells) (layer : Changes) → Covers test p class base → Covers test p class (over no_cells layer)
+    → Covers test p class (over base layer)
 covers_over test p class base layer below above key fails = by (layer (object_cell class key)) refl
   where
     by : (c : Option (Option C.CellValue)) → layer (object_cell class key) ≡ c → belongs_in p key (changed (base (object_cell class key)) c) ≡ Ok false
@@ -102,7 +104,8 @@ table_between low high (e ∷ es) key within out = by (table_between low high es
     later : List (ℤ × CellValue)
     later = entries_between int_cmp low high es
 
-    by : (is_among (firsts later) key ≡ false → lookup (is_at (int_cmp key)) es ≡ None) → (same : Bool) → is_at (int_cmp key) e.0 ≡ same → (inside : Bool) → range_contains int_cmp low high e.0 ≡ inside → is_among (firsts (cond inside (e ∷ later) later)) key ≡ false
+    by : (is_among (firsts later) key ≡ false → lookup (is_at (int_cmp key)) es ≡ None) → (same : Bool) → is_at (int_cmp key) e.0 ≡ same → (inside : Bool)
+        → range_contains int_cmp low high e.0 ≡ inside → is_among (firsts (cond inside (e ∷ later) later)) key ≡ false
         → cond same (Some e.1) (lookup (is_at (int_cmp key)) es) ≡ None
     by rest true is true inside out = absurd (cc (sym (any_first (int_eq key e.0) (is_among (firsts later) key) out) ∙ sym (int_at key e.0) ∙ is))
     by rest true is false inside out =
@@ -116,7 +119,8 @@ pub layer_between : (class : ℕ) (low high : ℤ) (es : Kept) (key : ℤ) → i
     → is_among (object_keys (entries_between cell_cmp (Included (Object class low)) (Included (Object class high)) es)) key ≡ false → changes (map entry es) (object_cell class key) ≡ None
 layer_between class low high [] key from below out = refl
 layer_between class low high ((Object of k, x) ∷ es) key from below out =
-    by (layer_between class low high es key from below) (same_cell (object_cell of k) (object_cell class key)) refl (range_contains cell_cmp (Included (Object class low)) (Included (Object class high)) (Object of k)) refl out
+    by (layer_between class low high es key from below) (same_cell (object_cell of k) (object_cell class key)) refl
+    (range_contains cell_cmp (Included (Object class low)) (Included (Object class high)) (Object of k)) refl out
   where
     later : Kept
     later = entries_between cell_cmp (Included (Object class low)) (Included (Object class high)) es
@@ -138,8 +142,10 @@ layer_between class low high ((Object of k, x) ∷ es) key from below out =
         ((Decides-eqb of class).0 (and_first (of == class) (int_eq k key) same)) ((Decides-int_eq k key).0 (and_second (of == class) (int_eq k key) same))
         ∙ inside_at (nat_cmp class class) (tied_itself nat_cmp_total class)
 
-    by : (is_among (object_keys later) key ≡ false → changes (map entry es) (object_cell class key) ≡ None) → (same : Bool) → same_cell (object_cell of k) (object_cell class key) ≡ same → (inside : Bool)
-        → range_contains cell_cmp (Included (Object class low)) (Included (Object class high)) (Object of k) ≡ inside → is_among (object_keys (cond inside ((Object of k, x) ∷ later) later)) key ≡ false
+    by : (is_among (object_keys later) key ≡ false → changes (map entry es) (object_cell class key) ≡ None) → (same : Bool) → same_cell (object_cell of k) (object_cell class key) ≡ same
+        → (inside : Bool)
+        → range_contains cell_cmp (Included (Object class low)) (Included (Object class high)) (Object of k) ≡ inside
+        → is_among (object_keys (cond inside ((Object of k, x) ∷ later) later)) key ≡ false
         → (if same then Some (change x) else changes (map entry es) (object_cell class key)) ≡ None
     by rest true is true inside out =
         absurd (cc (sym (any_first (int_eq key k) (is_among (object_keys later) key) out)
@@ -170,7 +176,8 @@ named_fits ((Object of k, x) ∷ es) class key fit past = by (same_cell (object_
     second true b h = h
     second false b h = cc
 
-    by : (same : Bool) → same_cell (object_cell of k) (object_cell class key) ≡ same → (if same then Some (change x) else changes (map entry es) (object_cell class key)) ≡ changes (map entry es) (object_cell class key)
+    by : (same : Bool) → same_cell (object_cell of k) (object_cell class key) ≡ same
+        → (if same then Some (change x) else changes (map entry es) (object_cell class key)) ≡ changes (map entry es) (object_cell class key)
     by true is = absurd (cc (sym fit.0 ∙ ap fits_64 ((Decides-int_eq k key).0 (second (of == class) (int_eq k key) is)) ∙ past))
     by false is = refl
 named_fits ((Rule n, x) ∷ es) class key fit past = named_fits es class key fit.1 past
@@ -213,7 +220,8 @@ covers_more test p class layers i shared within is below above key fails =
 
 -- the base, the layers and the writes
 pub covers_each : (test : ℤ → Bool) (p : ClassPart) (class : ℕ) (b : Base) (layers : List Entries) (now : Stack) (writes : Entries) → record { base = tables b; layers = layers } ≡ now
-    → Covers test p class (base_cells b) → Covers test p class (over no_cells (changes_in layers)) → Covers test p class (over no_cells (changes writes)) → Covers test p class (over (cells_in now) (changes writes))
+    → Covers test p class (base_cells b) → Covers test p class (over no_cells (changes_in layers)) → Covers test p class (over no_cells (changes writes))
+    → Covers test p class (over (cells_in now) (changes writes))
 covers_each test p class b layers now writes is base over_it written =
     subst (λ cs. Covers test p class (over cs (changes writes))) (cells_shown b layers now is)
     (covers_over test p class (over (base_cells b) (changes_in layers)) (changes writes) (covers_over test p class (base_cells b) (changes_in layers) base over_it) written)

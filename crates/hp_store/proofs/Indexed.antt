@@ -36,7 +36,8 @@ pub covers_index : (index : Index) (b : Bounds) (others found : List ℤ) (field
     → ((q : Place) → contains place_cmp index.places q ≡ true → is_between (value_place least (low b)) (value_place greatest (high b)) q ≡ true → is_among found (key_at q) ≡ true)
     → index.class ≡ class → string_bytes index.field ≡ field → IsComplete cells index → Covers (is_among found) p class cells
 covers_index index b others found field p class cells is none other between of named all key out =
-    by (cells (object_cell class key)) (subst (λ f. MatchOption (place_at f key (cells (object_cell class key))) ⊤ (Stands index.places)) named (subst (λ c. IsIn index key (cells (object_cell c key))) of (all key)))
+    by (cells (object_cell class key)) (subst (λ f. MatchOption (place_at f key (cells (object_cell class key))) ⊤ (Stands index.places)) named
+    (subst (λ c. IsIn index key (cells (object_cell c key))) of (all key)))
   where
     placed : (o : Outcome V.Value) → Stands index.places (place_of key o) → (o >>= λ v. lies_within (low b) (high b) v) ≡ Ok false
     placed o there =
@@ -91,7 +92,8 @@ enters_more index new es left rest k v step kept entered have = record {
     choice key e done rest true was = was
     choice key e done rest false was = rest was
 
-    by : (key : ℤ) (done : List (ℤ × Held)) → IsIn new key (option_map cell_value (lookup (is_at (int_cmp key)) done)) → IsIn new key (option_map cell_value (lookup (is_at (int_cmp key)) (done ++ (k, v) ∷ [])))
+    by : (key : ℤ) (done : List (ℤ × Held)) → IsIn new key (option_map cell_value (lookup (is_at (int_cmp key)) done))
+        → IsIn new key (option_map cell_value (lookup (is_at (int_cmp key)) (done ++ (k, v) ∷ [])))
     by key [] was = last key (is_at (int_cmp key) k) refl
     by key (e ∷ done) was = choice key e done (by key done) (is_at (int_cmp key) e.0) was
 
@@ -103,7 +105,8 @@ complete_same cells new indexes after is same all =
     subst (λ cs. AreComplete cs after.items) (λ i q. sym (same q) i) (subst (λ (v : Vec Index). AreComplete cells v.items) (sym is) all)
 
 -- with another value at one cell
-pub complete_set : (b new : Base) (after : Vec Index) (cell : Cell) (change given : Option Held) (r : Option (Bor Held)) → given ≡ change → option_map (λ x. cell_value x.now) r ≡ option_map cell_value change
+pub complete_set : (b new : Base) (after : Vec Index) (cell : Cell) (change given : Option Held) (r : Option (Bor Held)) → given ≡ change
+    → option_map (λ x. cell_value x.now) r ≡ option_map cell_value change
     → new.indexes ≡ b.indexes → ((q : Cell) → base_cells new q ≡ (if same_cell cell q then option_map cell_value given else base_cells b q))
     → (AreComplete (base_cells b) new.indexes.items → AreComplete (with_value (base_cells b) cell (option_map (λ x. cell_value x.now) r)) after.items)
     → AreComplete (base_cells b) b.indexes.items → AreComplete (base_cells new) after.items

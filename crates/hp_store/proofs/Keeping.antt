@@ -27,12 +27,15 @@ cells_shown b layers now is = (λ j q. sym (shown b layers q) j) ∙ ap cells_in
 -- where the cells are those under one layer more
 pub kept_shown : (b new : Base) (layers left : List Entries) (layer : Entries) (lists kept : List KeptList)
     → ((q : Cell) → over (base_cells new) (changes_in left) q ≡ changed (base_cells b q) (option_or (changes layer q) (changes_in layers q)))
-    → ((base : Cells) → AreKept base lists → AreKept (over base (changes layer)) kept) → AreKept (over (base_cells b) (changes_in layers)) lists → AreKept (over (base_cells new) (changes_in left)) kept
+    → ((base : Cells) → AreKept base lists → AreKept (over base (changes layer)) kept) → AreKept (over (base_cells b) (changes_in layers)) lists
+    → AreKept (over (base_cells new) (changes_in left)) kept
 kept_shown b new layers left layer lists kept same still have =
     subst (λ cs. AreKept cs kept) (λ i q. (over_or (base_cells b) layer (changes_in layers q) q ∙ sym (same q)) i) (still (over (base_cells b) (changes_in layers)) have)
 
 -- with one layer more
-pub kept_over : (b new : Base) (layers pile : List Entries) (layer : Entries) (lists kept : List KeptList) → new ≡ b → ((q : Cell) → changes_in pile q ≡ option_or (changes layer q) (changes_in layers q))
-    → ((base : Cells) → AreKept base lists → AreKept (over base (changes layer)) kept) → AreKept (over (base_cells b) (changes_in layers)) lists → AreKept (over (base_cells new) (changes_in pile)) kept
+pub kept_over : (b new : Base) (layers pile : List Entries) (layer : Entries) (lists kept : List KeptList) → new ≡ b
+    → ((q : Cell) → changes_in pile q ≡ option_or (changes layer q) (changes_in layers q))
+    → ((base : Cells) → AreKept base lists → AreKept (over base (changes layer)) kept) → AreKept (over (base_cells b) (changes_in layers)) lists
+    → AreKept (over (base_cells new) (changes_in pile)) kept
 kept_over b new layers pile layer lists kept same stacked =
     kept_shown b new layers pile layer lists kept (λ q. ap (λ x. changed (base_cells x q) (changes_in pile q)) same ∙ ap (changed (base_cells b q)) (stacked q))

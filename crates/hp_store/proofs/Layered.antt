@@ -25,7 +25,8 @@ changes_in-more layers i layer q within is =
     ap (λ l. changes_in l q) (take_more layers i layer within ∙ ap (λ l. take i layers ++ l ∷ []) (sym is)) ∙ changes_in-push (take i layers) layer q
 
 -- the newest layer that names a cell
-pub newest_found : (layers rest others : List Entries) (last : Entries) (q : Cell) (x : Option CellValue) → changes_in rest q ≡ changes_in layers q → rest ≡ others ++ last ∷ [] → Some x ≡ changes last q
+pub newest_found : (layers rest others : List Entries) (last : Entries) (q : Cell) (x : Option CellValue) → changes_in rest q ≡ changes_in layers q
+    → rest ≡ others ++ last ∷ [] → Some x ≡ changes last q
     → Some x ≡ changes_in layers q
 newest_found layers rest others last q x so_far split named =
     ap (λ o. option_or o (changes_in others q)) named ∙ sym (changes_in-push others last q) ∙ ap (λ l. changes_in l q) (sym split) ∙ so_far
@@ -36,7 +37,8 @@ newest_next layers rest others last q so_far split unnamed =
     ap (λ o. option_or o (changes_in others q)) unnamed ∙ sym (changes_in-push others last q) ∙ ap (λ l. changes_in l q) (sym split) ∙ so_far
 
 -- one layer more over cells
-pub over_or : (base : Cells) (layer : Entries) (below : Option (Option CellValue)) (q : Cell) → changed (changed (base q) below) (changes layer q) ≡ changed (base q) (option_or (changes layer q) below)
+pub over_or : (base : Cells) (layer : Entries) (below : Option (Option CellValue)) (q : Cell)
+    → changed (changed (base q) below) (changes layer q) ≡ changed (base q) (option_or (changes layer q) below)
 over_or base layer below q = by (changes layer q)
   where
     by : (o : Option (Option CellValue)) → changed (changed (base q) below) o ≡ changed (base q) (option_or o below)
@@ -76,7 +78,8 @@ changes_in-append : (below above : List Entries) (q : Cell) → changes_in (belo
 changes_in-append [] above q = sym (or_none (changes_in above q))
 changes_in-append (l ∷ below) above q = ap (λ o. option_or o (changes l q)) (changes_in-append below above q) ∙ or_assoc (changes_in above q) (changes_in below q) (changes l q)
 
-pub folded_over : (layers below above pile : List Entries) (layer one : Entries) → layers ≡ below ++ above → pile ≡ below ++ one ∷ [] → ((q : Cell) → changes one q ≡ option_or (changes layer q) (changes_in above q))
+pub folded_over : (layers below above pile : List Entries) (layer one : Entries) → layers ≡ below ++ above → pile ≡ below ++ one ∷ []
+    → ((q : Cell) → changes one q ≡ option_or (changes layer q) (changes_in above q))
     → (q : Cell) → changes_in pile q ≡ option_or (changes layer q) (changes_in layers q)
 folded_over layers below above pile layer one split is step q =
     ap (λ ls. changes_in ls q) is ∙ changes_in-push below one q ∙ ap (λ o. option_or o (changes_in below q)) (step q) ∙ or_assoc (changes layer q) (changes_in above q) (changes_in below q)

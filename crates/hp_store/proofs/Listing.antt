@@ -1,5 +1,6 @@
 -- Whether a list has the keys of the objects that are there.
-use Rattle.std.proofs.Common.{◌≡◌, refl, ap, ap₂, sym, ◌∙◌, subst, ℕ, zero, suc, ◌<◌, ℤ, Bool, true, false, not, ◌&&◌, ◌||◌, cond, List, [], ◌∷◌, length, get_or, Option, Some, None, is_some, int_eq, arith}
+use Rattle.std.proofs.Common.{◌≡◌, refl, ap, ap₂, sym, ◌∙◌, subst, ℕ, zero, suc, ◌<◌, ℤ, Bool, true, false, not, ◌&&◌, ◌||◌, cond, List, [], ◌∷◌, length, get_or, Option, Some}
+use Rattle.std.proofs.Common.{None, is_some, int_eq, arith}
 use Rattle.std.specs.Prelude.{◌==◌, IsTrue, if◌then◌else◌, option_map}
 use Rattle.std.specs.Option.{option_or}
 use Rattle.std.specs.declared.cmp.Ordering.TheVariants.{Less, Equal, Greater}
@@ -101,7 +102,8 @@ entry_listed cells keys class of k key x es true true e f later listed named =
 entry_listed cells keys class of k key x es true false e f later listed named =
     let classes : of ≡ class = (Decides-eqb of class).0 (and_left (of == class) (int_eq k key) e) in
     absurd (cc (sym f ∙ (Decides-eqb class of).1 (sym classes)))
-entry_listed cells keys class of k key x es false true e f later listed named = later (and_right (is_listed cells keys (object_cell of k)) (are_listed cells keys (class_entries class es)) listed) named
+entry_listed cells keys class of k key x es false true e f later listed named =
+    later (and_right (is_listed cells keys (object_cell of k)) (are_listed cells keys (class_entries class es)) listed) named
 entry_listed cells keys class of k key x es false false e f later listed named = later listed named
 
 layer_listed : (cells : Cells) (keys : List ℤ) (class : ℕ) (key : ℤ) (es : Entries) → are_listed cells keys (class_entries class es) ≡ true → is_some (changes es (object_cell class key)) ≡ true
@@ -126,7 +128,8 @@ layers_listed cells keys class key (l ∷ layers) listed named =
     either_named (changes_in layers q) (changes l q) (is_listed cells keys q ≡ true) (layers_listed cells keys class key layers (and_right here rest listed))
     (layer_listed cells keys class key l (and_left here rest listed)) named
 
-row_listed : (cells : Cells) (keys : List ℤ) (class : ℕ) (key k : ℤ) (v : CellValue) (es : List (ℤ × CellValue)) (same : Bool) → is_at (int_cmp key) k ≡ same → is_listed cells keys (object_cell class k) ≡ true
+row_listed : (cells : Cells) (keys : List ℤ) (class : ℕ) (key k : ℤ) (v : CellValue) (es : List (ℤ × CellValue)) (same : Bool) → is_at (int_cmp key) k ≡ same
+    → is_listed cells keys (object_cell class k) ≡ true
     → (is_some (option_map cell_value (lookup (is_at (int_cmp key)) es)) ≡ true → is_listed cells keys (object_cell class key) ≡ true)
     → is_some (option_map cell_value (cond same (Some v) (lookup (is_at (int_cmp key)) es))) ≡ true → is_listed cells keys (object_cell class key) ≡ true
 row_listed cells keys class key k v es true e here later found = subst (λ j. is_listed cells keys (object_cell class j) ≡ true) (sym ((Decides-int_eq key k).0 (sym (int_at key k) ∙ e))) here
@@ -140,12 +143,14 @@ table_listed cells keys class key (e ∷ es) listed found =
     let rest = list_all (λ d. is_listed cells keys (object_cell class d.0)) es in
     row_listed cells keys class key e.0 e.1 es (is_at (int_cmp key) e.0) refl (and_left here rest listed) (table_listed cells keys class key es (and_right here rest listed)) found
 
-named_somewhere : (P : Type 0) (b : Option C.CellValue) (l w : Option (Option C.CellValue)) → (is_some b ≡ true → P) → (is_some l ≡ true → P) → (is_some w ≡ true → P) → is_some (changed (changed b l) w) ≡ true → P
+named_somewhere : (P : Type 0) (b : Option C.CellValue) (l w : Option (Option C.CellValue)) → (is_some b ≡ true → P) → (is_some l ≡ true → P) → (is_some w ≡ true → P)
+    → is_some (changed (changed b l) w) ≡ true → P
 named_somewhere P b None None base layers writes there = base there
 named_somewhere P b (Some x) None base layers writes there = layers refl
 named_somewhere P b l (Some x) base layers writes there = writes refl
 
-there_listed : (cells : Cells) (keys : List ℤ) (class : ℕ) (key : ℤ) → is_listed cells keys (object_cell class key) ≡ true → is_some (cells (object_cell class key)) ≡ true → list_any (int_eq key) keys ≡ true
+there_listed : (cells : Cells) (keys : List ℤ) (class : ℕ) (key : ℤ) → is_listed cells keys (object_cell class key) ≡ true → is_some (cells (object_cell class key)) ≡ true
+    → list_any (int_eq key) keys ≡ true
 there_listed cells keys class key listed there = by (list_any (int_eq key) keys) (listed_there there listed)
   where
     by : (a : Bool) → (a || not true) ≡ true → a ≡ true
@@ -157,7 +162,8 @@ there_listed cells keys class key listed there = by (list_any (int_eq key) keys)
 
 -- ---- the keys of a class
 
-any_step : (p : ℤ → Bool) (key x : ℤ) (xs : List ℤ) (b : Bool) → int_eq key x ≡ b → p x ≡ true → (list_any (int_eq key) xs ≡ true → p key ≡ true) → (b || list_any (int_eq key) xs) ≡ true → p key ≡ true
+any_step : (p : ℤ → Bool) (key x : ℤ) (xs : List ℤ) (b : Bool) → int_eq key x ≡ b → p x ≡ true → (list_any (int_eq key) xs ≡ true → p key ≡ true)
+    → (b || list_any (int_eq key) xs) ≡ true → p key ≡ true
 any_step p key x xs true e here later h = ap p ((Decides-int_eq key x).0 e) ∙ here
 any_step p key x xs false e here later h = later h
 
@@ -185,7 +191,8 @@ class_listed cells class keys are ((object_cell of k, x) ∷ es) = class_step ce
 class_listed cells class keys are ((rule_cell n, x) ∷ es) = class_listed cells class keys are es
 class_listed cells class keys are ((detector_cell n, x) ∷ es) = class_listed cells class keys are es
 
-each_class_listed : (cells : Cells) (class : ℕ) (keys : List ℤ) → AreKeys cells class keys → (layers : List Entries) → list_all (λ layer. are_listed cells keys (class_entries class layer)) layers ≡ true
+each_class_listed : (cells : Cells) (class : ℕ) (keys : List ℤ) → AreKeys cells class keys → (layers : List Entries)
+    → list_all (λ layer. are_listed cells keys (class_entries class layer)) layers ≡ true
 each_class_listed cells class keys are [] = refl
 each_class_listed cells class keys are (l ∷ layers) = ap₂ (λ a b. a && b) (class_listed cells class keys are l) (each_class_listed cells class keys are layers)
 
@@ -212,10 +219,13 @@ module _ (s : Stack) (writes : Entries) (class : ℕ) (keys : List ℤ) where
 
       listed : (key : ℤ) → is_some (Now (object_cell class key)) ≡ true → is_listed Now keys (object_cell class key) ≡ true
       listed key there =
-          named_somewhere (is_listed Now keys (object_cell class key) ≡ true) (cells_at s.base (object_cell class key)) (changes_in s.layers (object_cell class key)) (changes writes (object_cell class key))
+          named_somewhere (is_listed Now keys (object_cell class key) ≡ true) (cells_at s.base (object_cell class key)) (changes_in s.layers (object_cell class key))
+          (changes writes (object_cell class key))
           (table_listed Now keys class key (entries_at s.base.classes class) (and_left base (layers && are_listed Now keys (class_entries class writes)) all))
-          (layers_listed Now keys class key s.layers (and_left layers (are_listed Now keys (class_entries class writes)) (and_right base (layers && are_listed Now keys (class_entries class writes)) all)))
-          (layer_listed Now keys class key writes (and_right layers (are_listed Now keys (class_entries class writes)) (and_right base (layers && are_listed Now keys (class_entries class writes)) all)))
+          (layers_listed Now keys class key s.layers (and_left layers (are_listed Now keys (class_entries class writes))
+          (and_right base (layers && are_listed Now keys (class_entries class writes)) all)))
+          (layer_listed Now keys class key writes (and_right layers (are_listed Now keys (class_entries class writes))
+          (and_right base (layers && are_listed Now keys (class_entries class writes)) all)))
           there
 
   -- the answers of the parts
@@ -223,7 +233,8 @@ module _ (s : Stack) (writes : Entries) (class : ℕ) (keys : List ℤ) where
       → (IsTrue b → AreKeys Now class keys) × (AreKeys Now class keys → IsTrue b)
   told b rise each all = (
     λ t. are_keys rise (sym each) (sym all ∙ t),
-    λ are. all ∙ ap₂ (λ x y. x && y) (rows_listed Now class keys are (entries_at s.base.classes class)) (ap₂ (λ x y. x && y) (each_class_listed Now class keys are s.layers) (class_listed Now class keys are writes)),
+    λ are. all ∙ ap₂ (λ x y. x && y) (rows_listed Now class keys are (entries_at s.base.classes class))
+        (ap₂ (λ x y. x && y) (each_class_listed Now class keys are s.layers) (class_listed Now class keys are writes)),
   )
 
   pub told_missing : (b : Bool) → b ≡ false → b ≡ list_all (λ key. is_some (Now (object_cell class key))) keys → (IsTrue b → AreKeys Now class keys) × (AreKeys Now class keys → IsTrue b)

@@ -1,5 +1,6 @@
 -- Rising keys with the changes of a layer.
-use Rattle.std.proofs.Common.{◌≡◌, refl, ap, ap₂, sym, ◌∙◌, subst, ℕ, ℤ, Bool, true, false, ◌&&◌, ◌||◌, cond, List, [], ◌∷◌, ◌++◌, map, Option, Some, None, is_some, int_eq, append_assoc, IsTrue, to_z, of_z, w64}
+use Rattle.std.proofs.Common.{◌≡◌, refl, ap, ap₂, sym, ◌∙◌, subst, ℕ, ℤ, Bool, true, false, ◌&&◌, ◌||◌, cond, List, [], ◌∷◌, ◌++◌, map, Option, Some, None, is_some, int_eq}
+use Rattle.std.proofs.Common.{append_assoc, IsTrue, to_z, of_z, w64}
 use Rattle.std.specs.Prelude.{◌==◌, filter, if◌then◌else◌}
 use Rattle.std.specs.declared.cmp.Ordering.{Ordering}
 use Rattle.std.specs.declared.cmp.Ordering.TheVariants.{Less, Equal, Greater}
@@ -265,7 +266,8 @@ module _ (whole m rest : List ℤ) (it t : Entered) (d : Kept) (x : Option Held)
       subst (IsStrictlySortedBy int_cmp) (sym back) (IsStrictlySortedBy-filter int_cmp (λ j. is_gt (int_cmp j (to_z w64 (of_z w64 key)))) rest merges.rise)
 
   -- the changed object is there
-  pub merges_value : (b a n : List ℤ) → is_some x ≡ true → b ≡ below (to_z w64 (of_z w64 key)) rest → a ≡ above (to_z w64 (of_z w64 key)) rest → n ≡ (m ++ b) ++ to_z w64 (of_z w64 key) ∷ [] → Merges whole n a t
+  pub merges_value : (b a n : List ℤ) → is_some x ≡ true → b ≡ below (to_z w64 (of_z w64 key)) rest → a ≡ above (to_z w64 (of_z w64 key)) rest
+      → n ≡ (m ++ b) ++ to_z w64 (of_z w64 key) ∷ [] → Merges whole n a t
   unfolding same_key next_change above_rise
   merges_value b a n some front back new = record {
     rise = above_rise a back;
@@ -295,7 +297,8 @@ module _ (whole m rest : List ℤ) (it t : Entered) (d : Kept) (x : Option Held)
   }
 
 -- before the first entry
-pub merges_first : (keys m rest : List ℤ) (es : Entries) (found it : Entered) → IsStrictlySortedBy int_cmp keys → KeysFit es → map entry found ≡ es → it ≡ found → m ≡ [] → rest ≡ keys → Merges (merged keys es) m rest it
+pub merges_first : (keys m rest : List ℤ) (es : Entries) (found it : Entered) → IsStrictlySortedBy int_cmp keys → KeysFit es → map entry found ≡ es
+    → it ≡ found → m ≡ [] → rest ≡ keys → Merges (merged keys es) m rest it
 merges_first keys m rest es found it rise fit entries is none all = record {
   rise = subst (IsStrictlySortedBy int_cmp) (sym all) rise;
   fit = subst KeysFit (sym (ap (map entry) is ∙ entries)) fit;
@@ -303,7 +306,8 @@ merges_first keys m rest es found it rise fit entries is none all = record {
 }
 
 -- an entry that is no object's
-pub merges_other : (whole m rest : List ℤ) (it t : Entered) (d : Kept) (x : Option Held) → Merges whole m rest it → it ≡ (d, x) ∷ t → ((class : ℕ) (key : ℤ) → d ≡ Object class key → ⊥) → Merges whole m rest t
+pub merges_other : (whole m rest : List ℤ) (it t : Entered) (d : Kept) (x : Option Held) → Merges whole m rest it → it ≡ (d, x) ∷ t → ((class : ℕ) (key : ℤ) → d ≡ Object class key → ⊥)
+    → Merges whole m rest t
 merges_other whole m rest it t d x merges steps other = record {
   rise = merges.rise;
   fit = fit_rest it t (d, x) merges.fit steps;

@@ -61,7 +61,8 @@ notes_more index new es left rest e step same kept entered have = record {
     choice key d done rest true was = was
     choice key d done rest false was = rest was
 
-    by : (key : ℤ) (done : Kept) → IsIn new key (over no_cells (changes (map entry done)) (object_cell index.class key)) → IsIn new key (over no_cells (changes (map entry (done ++ e ∷ []))) (object_cell index.class key))
+    by : (key : ℤ) (done : Kept) → IsIn new key (over no_cells (changes (map entry done)) (object_cell index.class key))
+        → IsIn new key (over no_cells (changes (map entry (done ++ e ∷ []))) (object_cell index.class key))
     by key [] was = last key (same_cell (cell e.0) (object_cell index.class key)) refl
     by key (d ∷ done) was = choice key d done (by key done) (same_cell (cell d.0) (object_cell index.class key)) was
 

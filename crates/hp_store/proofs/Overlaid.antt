@@ -19,7 +19,8 @@ use Rattle.hp_store.specs.Changes.{Entries, changes, class_entries, KeysFit}
 use Rattle.hp_store.specs.Keys.{below, above, merged, AboveKeys, KeysRise}
 use Rattle.hp_store.specs.Kept.{MakesObjects}
 use Rattle.hp_store.proofs.Entered.{fit_key}
-use Rattle.hp_store.proofs.Merging.{all_weaker, all_filter, below-all, above-all, at_key, at_nothing, at_itself, at_lower, at_higher, at_skipped, changes-key, keys_found, Entered, Merges, merges_first, merges_value, merges_none, merges_other, merges_last}
+use Rattle.hp_store.proofs.Merging.{all_weaker, all_filter, below-all, above-all, at_key, at_nothing, at_itself, at_lower, at_higher, at_skipped, changes-key, keys_found, Entered}
+use Rattle.hp_store.proofs.Merging.{Merges, merges_first, merges_value, merges_none, merges_other, merges_last}
 use Rattle.hp_store.proofs.Wholes.{HasRow, unchanged}
 
 -- ---- facts of each item of a list
@@ -160,14 +161,16 @@ module _ (base : Cells) (class : ℕ) (old : List KeyedRow) (layer : Entries) (m
       → (IsStrictlySortedBy int_cmp (drop from ks) → drop next ks ≡ above (to_z w64 (of_z w64 key)) (drop from ks))
       → MakesObjects (m ++ take count (drop from old)) (to_z w64 (of_z w64 key)) (change x) new → Walks base class old layer new next t
   walks_on ks count next new same lower higher made = record {
-    merges = keys_made (merged (keys_of old) (class_entries class layer)) m (take count (drop from old)) new (drop from (keys_of old)) (drop next (keys_of old)) it t d x of key w.merges steps is front_keys keys_above made;
+    merges = keys_made (merged (keys_of old) (class_entries class layer)) m (take count (drop from old)) new (drop from (keys_of old)) (drop next (keys_of old))
+        it t d x of key w.merges steps is front_keys keys_above made;
     ups = rise_here.1;
     low = Some key;
     keys_up = subst (AllByRecursion (Beyond (Some key))) (sym (keys_above ∙ ap (λ k. above k (drop from (keys_of old))) fit)) (above-all key (drop from (keys_of old)));
     changes_up = rise_here.0;
     named = named_above;
     beneath = w.beneath;
-    rows = rows_made base class layer (m ++ take count (drop from old)) new key (to_z w64 (of_z w64 key)) x fit said (all_joined (HasRow (over base (changes layer)) class) m (take count (drop from old)) w.rows front_rows) made;
+    rows = rows_made base class layer (m ++ take count (drop from old)) new key (to_z w64 (of_z w64 key)) x fit said
+        (all_joined (HasRow (over base (changes layer)) class) m (take count (drop from old)) w.rows front_rows) made;
   }
     where
       fit : to_z w64 (of_z w64 key) ≡ key
@@ -192,7 +195,8 @@ rise_skipped (Object class key) x t other ups = absurd (other class key refl)
 rise_skipped (Rule n) x t other ups = ups
 rise_skipped (Detector n) x t other ups = ups
 
-up_skipped : (low : Option ℤ) (d : Cell) (x : Option CellValue) (t : Entered) → ((class : ℕ) (key : ℤ) → d ≡ Object class key → ⊥) → AllBeyond low (map entry ((d, x) ∷ t)) → AllBeyond low (map entry t)
+up_skipped : (low : Option ℤ) (d : Cell) (x : Option CellValue) (t : Entered) → ((class : ℕ) (key : ℤ) → d ≡ Object class key → ⊥) → AllBeyond low (map entry ((d, x) ∷ t))
+    → AllBeyond low (map entry t)
 up_skipped None d x t other ups = tt
 up_skipped (Some k) (Object class key) x t other ups = absurd (other class key refl)
 up_skipped (Some k) (Rule n) x t other ups = ups

@@ -1,5 +1,6 @@
 -- The objects of a part, found among some keys.
-use Rattle.std.proofs.Common.{◌≡◌, refl, ap, ap₂, sym, ◌∙◌, subst, ℕ, ◌<◌, ◌+◌, ℤ, pos, Bool, true, false, ◌||◌, List, [], ◌∷◌, ◌++◌, length, drop, get_or, append_assoc, Option, Some, None, int_eq, Result, Ok, Err}
+use Rattle.std.proofs.Common.{◌≡◌, refl, ap, ap₂, sym, ◌∙◌, subst, ℕ, ◌<◌, ◌+◌, ℤ, pos, Bool, true, false, ◌||◌, List, [], ◌∷◌, ◌++◌, length, drop, get_or, append_assoc, Option}
+use Rattle.std.proofs.Common.{Some, None, int_eq, Result, Ok, Err}
 use Rattle.std.specs.Prelude.{All, IfOk, option_map}
 use Rattle.std.specs.Ordering.{is_eq, int_cmp}
 use Rattle.std.specs.declared.cmp.Ordering.TheVariants.{Less}
@@ -129,10 +130,13 @@ module _ (cells : Cells) (p : ClassPart) (class : ℕ) where
       keys : keys_of objects ++ key ∷ left ≡ keys_of (objects ++ record { key = key; row = row } ∷ []) ++ left
       keys = sym (append_assoc (keys_of objects) (key ∷ []) left) ∙ ap (λ ks. ks ++ left) (sym (map-append (λ (o : KeyedRow). o.key) objects (record { key = key; row = row } ∷ [])))
 
-  pub picks_start : (keys left : List ℤ) (objects : List KeyedRow) → objects ≡ [] → left ≡ keys → IsStrictlySortedBy int_cmp keys → Covers (is_among keys) p class cells → Picks cells p class left objects
-  picks_start keys left objects none is rise covers = subst (λ l. Picks cells p class l objects) (sym is) (subst (Picks cells p class keys) (sym none) (record { rise = rise; covers = covers; shown = All-nil (IsShown cells p class) }))
+  pub picks_start : (keys left : List ℤ) (objects : List KeyedRow) → objects ≡ [] → left ≡ keys → IsStrictlySortedBy int_cmp keys → Covers (is_among keys) p class cells
+      → Picks cells p class left objects
+  picks_start keys left objects none is rise covers =
+      subst (λ l. Picks cells p class l objects) (sym is) (subst (Picks cells p class keys) (sym none) (record { rise = rise; covers = covers; shown = All-nil (IsShown cells p class) }))
 
-  pub picks_step : (keys : List ℤ) (i : ℕ) (key : ℤ) (objects new : List KeyedRow) (member : Option Row) → i < length keys → key ≡ get_or keys i (pos 0) → IsMember p key (cells (object_cell class key)) member
+  pub picks_step : (keys : List ℤ) (i : ℕ) (key : ℤ) (objects new : List KeyedRow) (member : Option Row) → i < length keys → key ≡ get_or keys i (pos 0)
+      → IsMember p key (cells (object_cell class key)) member
       → new ≡ with_member objects key member → Picks cells p class (drop i keys) objects → Picks cells p class (drop (i + 1) keys) new
   picks_step keys i key objects new member within same told is so_far =
       picks_more key (drop (i + 1) keys) objects new member told is

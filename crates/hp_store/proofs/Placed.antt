@@ -1,5 +1,6 @@
 -- Places in an index: their order, and where the objects of a part are.
-use Rattle.std.proofs.Common.{◌≡◌, refl, ap, ap₂, sym, ◌∙◌, ℕ, zero, suc, ℤ, Bool, true, false, not, ◌&&◌, ◌||◌, cond, List, [], ◌∷◌, map, Option, Some, None, IsTrue, int_eq, Ok, Err, Bor, length, get_or, ◌<◌, nat_lt, arith}
+use Rattle.std.proofs.Common.{◌≡◌, refl, ap, ap₂, sym, ◌∙◌, ℕ, zero, suc, ℤ, Bool, true, false, not, ◌&&◌, ◌||◌, cond, List, [], ◌∷◌, map, Option, Some, None, IsTrue, int_eq, Ok}
+use Rattle.std.proofs.Common.{Err, Bor, length, get_or, ◌<◌, nat_lt, arith}
 use Rattle.std.specs.Prelude.{option_map, ◌==◌}
 use Rattle.std.specs.Option.{option_eq}
 use Rattle.std.specs.Cmp.Lexicographic.{slice_cmp}
@@ -168,11 +169,13 @@ key_of_place key (Err c) = refl
 and_not : (a b : Bool) → a ≡ true → b ≡ false → (a && not b) ≡ true
 and_not a b h k = ap₂ (λ x y. x && not y) h k
 
-number_from : (l : Option ℤ) (n key : ℤ) → IsTrue (fits_64 key) → is_from_start int_cmp (bound_of l) n ≡ true → is_from_start place_cmp (bound_of (value_place least (option_map integer l))) (Number n key) ≡ true
+number_from : (l : Option ℤ) (n key : ℤ) → IsTrue (fits_64 key) → is_from_start int_cmp (bound_of l) n ≡ true
+    → is_from_start place_cmp (bound_of (value_place least (option_map integer l))) (Number n key) ≡ true
 number_from None n key fit h = refl
 number_from (Some l) n key fit h = then_le (int_cmp l n) (int_cmp least key) h (above_least key fit)
 
-number_to : (h : Option ℤ) (n key : ℤ) → IsTrue (fits_64 key) → is_past_end int_cmp (bound_of h) n ≡ false → is_past_end place_cmp (bound_of (value_place greatest (option_map integer h))) (Number n key) ≡ false
+number_to : (h : Option ℤ) (n key : ℤ) → IsTrue (fits_64 key) → is_past_end int_cmp (bound_of h) n ≡ false
+    → is_past_end place_cmp (bound_of (value_place greatest (option_map integer h))) (Number n key) ≡ false
 number_to None n key fit is = refl
 number_to (Some h) n key fit is = then_lt (int_cmp h n) (int_cmp greatest key) is (below_greatest key fit)
 

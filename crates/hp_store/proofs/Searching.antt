@@ -56,7 +56,8 @@ before_hit : (xs : List ℤ) (key : ℤ) (i : ℕ) → IsStrictlySortedBy int_cm
 before_hit xs key i rise within hit k d low high =
     subst (λ y. int_cmp (get_or xs k d) y ≡ Less) (exact_signed (get_or xs i d) key (hit d)) (Less-from_sorted int_cmp xs k i d rise high within)
 
-after_hit : (xs : List ℤ) (key : ℤ) (i : ℕ) → IsStrictlySortedBy int_cmp xs → i < length xs → HoldsAt (λ x. int_cmp x key ≡ Equal) xs i → AllWithin (λ x. int_cmp x key ≡ Greater) xs (i + 1) (length xs)
+after_hit : (xs : List ℤ) (key : ℤ) (i : ℕ) → IsStrictlySortedBy int_cmp xs → i < length xs → HoldsAt (λ x. int_cmp x key ≡ Equal) xs i
+    → AllWithin (λ x. int_cmp x key ≡ Greater) xs (i + 1) (length xs)
 after_hit xs key i rise within hit k d low high =
     int_cmp_total.antisymm (get_or xs k d) key
     ∙ ap ordering_reverse (subst (λ y. int_cmp y (get_or xs k d) ≡ Less) (exact_signed (get_or xs i d) key (hit d)) (Less-from_sorted int_cmp xs i k d rise (omega arith) high))

@@ -29,7 +29,8 @@ pub shown : (b : Base) (layers : List Entries) (q : Cell) → cells_in (record {
 shown b layers q = ap (λ v. changed v (changes_in layers q)) (tables_show b q)
 
 -- with no layer, and nothing in the base
-pub nothing_shown : (b new : Base) (layers : List Entries) → new ≡ b → layers ≡ [] → ((q : Cell) → base_cells b q ≡ None) → (q : Cell) → cells_in (record { base = tables new; layers = layers }) q ≡ None
+pub nothing_shown : (b new : Base) (layers : List Entries) → new ≡ b → layers ≡ [] → ((q : Cell) → base_cells b q ≡ None) → (q : Cell)
+    → cells_in (record { base = tables new; layers = layers }) q ≡ None
 nothing_shown b new layers same none empty q = shown new layers q ∙ ap (λ l. changed (base_cells new q) (changes_in l q)) none ∙ ap (λ c. base_cells c q) same ∙ empty q
 
 -- what no layer names
@@ -79,12 +80,14 @@ pub keys_same : (base : Cells) (class : ℕ) (layers : List Entries) (i : ℕ) (
 keys_same base class layers i shared ks within is none have = subst (λ cs. AreKeys cs class ks) (λ j q. ap (changed (base q)) (nothing_more layers i shared within is none q) j) have
 
 -- of a snapshot
-pub keys_shown : (b : Base) (layers : List Entries) (now : Stack) (class : ℕ) (ks : List ℤ) → record { base = tables b; layers = layers } ≡ now → AreKeys (over (base_cells b) (changes_in layers)) class ks
+pub keys_shown : (b : Base) (layers : List Entries) (now : Stack) (class : ℕ) (ks : List ℤ) → record { base = tables b; layers = layers } ≡ now
+    → AreKeys (over (base_cells b) (changes_in layers)) class ks
     → AreKeys (cells_in now) class ks
 keys_shown b layers now class ks is have = subst (λ s. AreKeys (cells_in s) class ks) is (subst (λ cs. AreKeys cs class ks) (λ j q. sym (shown b layers q) j) have)
 
 -- a class's table
-pub table_shown : (b seen : Base) (layers : List Entries) (now : Stack) (class : ℕ) → record { base = tables b; layers = layers } ≡ now → seen ≡ b → table_at seen.classes.items class ≡ entries_at now.base.classes class
+pub table_shown : (b seen : Base) (layers : List Entries) (now : Stack) (class : ℕ) → record { base = tables b; layers = layers } ≡ now → seen ≡ b
+    → table_at seen.classes.items class ≡ entries_at now.base.classes class
 table_shown b seen layers now class is same = ap (λ (x : Base). table_at x.classes.items class) same ∙ sym (entries_of b.classes.items class) ∙ ap (λ s. entries_at s.base.classes class) is
 
 -- where the tables are the same, the cells are

@@ -1,5 +1,6 @@
 -- The greatest keys of a class in a table, in a layer and in a snapshot.
-use Rattle.std.proofs.Common.{◌≡◌, refl, ap, sym, ◌∙◌, subst, ℕ, ℤ, pos, negsuc, Bool, true, false, cond, List, [], ◌∷◌, ◌++◌, map, Option, Some, None, is_some, IsTrue, IsSome, int_lt, ◌+◌, ◌-◌, ◌^◌, ◌<◌, ⊎_elim, ◌⊎◌, length, take, get_or}
+use Rattle.std.proofs.Common.{◌≡◌, refl, ap, sym, ◌∙◌, subst, ℕ, ℤ, pos, negsuc, Bool, true, false, cond, List, [], ◌∷◌, ◌++◌, map, Option, Some, None, is_some, IsTrue, IsSome}
+use Rattle.std.proofs.Common.{int_lt, ◌+◌, ◌-◌, ◌^◌, ◌<◌, ⊎_elim, ◌⊎◌, length, take, get_or}
 use Rattle.std.specs.declared.cmp.Ordering.{Ordering}
 use Rattle.std.specs.declared.cmp.Ordering.TheVariants.{Less, Equal, Greater}
 use Rattle.std.specs.declared.ops.Bound.{Bound}
@@ -60,7 +61,8 @@ none_left shows s t None is steps = steps.0
 none_left shows s t (Some x) is steps = cc
 
 -- above the last key of a range up to a bound there is none below the bound
-pub table_last : (bound : Option ℤ) (end : Bound ℤ) (table : BTreeMap ℤ CellValue) (range left : List (ℤ × CellValue)) (e : ℤ × CellValue) → end ≡ below_bound bound → IsRangeOf int_cmp Unbounded end table range
+pub table_last : (bound : Option ℤ) (end : Bound ℤ) (table : BTreeMap ℤ CellValue) (range left : List (ℤ × CellValue)) (e : ℤ × CellValue) → end ≡ below_bound bound
+    → IsRangeOf int_cmp Unbounded end table range
     → range ≡ left ++ e ∷ [] → (key : ℤ) → is_below bound key ≡ true → int_lt e.0 key ≡ true → get int_cmp table key ≡ None
 table_last bound end table range left e is of last key below above =
     gone (get int_cmp table key) (λ some. cc (sym (of.4 e left last key (tt, subst (λ b. IsUpToEnd int_cmp b key) (sym is) (up_to_end bound key below)) some) ∙ ap is_lt (less_by e.0 key above)))
@@ -100,7 +102,8 @@ from_least : (class : ℕ) (key : ℤ) → IsTrue (fits_64 key) → IsFromStart 
 from_least class key fits = ap is_gt (at_class class (int_cmp least key)) ∙ le_not_gt (int_cmp least key) (above_least key fits)
 
 to_class_end : (class : ℕ) (bound : Option ℤ) (key : ℤ) → IsTrue (fits_64 key) → is_below bound key ≡ true → IsUpToEnd cell_cmp (class_end class bound) (Object class key)
-to_class_end class None key fits h = ap is_gt (at_class class (int_cmp key greatest)) ∙ turned_not_gt (int_cmp key greatest) (int_cmp greatest key) (int_cmp_total.antisymm key greatest) (below_greatest key fits)
+to_class_end class None key fits h = ap is_gt (at_class class (int_cmp key greatest)) ∙ turned_not_gt (int_cmp key greatest) (int_cmp greatest key)
+    (int_cmp_total.antisymm key greatest) (below_greatest key fits)
 to_class_end class (Some b) key fits h = at_class class (int_cmp key b) ∙ less_by key b h
 
 module _ (class : ℕ) (bound : Option ℤ) (end : Bound Cell) (m : BTreeMap Cell (Option CellValue)) (now : Entries) (range : Kept) (is : end ≡ class_end class bound) (shown : map entry m.entries ≡ now)
@@ -142,7 +145,8 @@ or_none a b e f = ap (λ o. option_or o b) e ∙ f
 
 -- with one layer more
 pub names_more : (layers : List Entries) (i : ℕ) (shared : Entries) (class : ℕ) (bound old more new : Option ℤ) → i < length layers → shared ≡ get_or layers i shared
-    → NamesNone (changes_in (take i layers)) class bound old → NamesNone (changes shared) class bound more → ((k : ℤ) → is_above new k ≡ true → is_above old k ≡ true) → ((k : ℤ) → is_above new k ≡ true → is_above more k ≡ true)
+    → NamesNone (changes_in (take i layers)) class bound old → NamesNone (changes shared) class bound more → ((k : ℤ) → is_above new k ≡ true → is_above old k ≡ true)
+    → ((k : ℤ) → is_above new k ≡ true → is_above more k ≡ true)
     → NamesNone (changes_in (take (i + 1) layers)) class bound new
 names_more layers i shared class bound old more new within is none here first second key below above =
     changes_in-more layers i shared (object_cell class key) within is
@@ -154,7 +158,8 @@ nothing_there : (b : Option C.CellValue) (l w : Option (Option C.CellValue)) →
 nothing_there b l w e f g = (λ i. is_some (changed (changed (e i) (f i)) (g i)))
 
 pub none_named : (b : Base) (layers : List Entries) (now : Stack) (writes : Entries) (class : ℕ) (bound base named under written new : Option ℤ) → record { base = tables b; layers = layers } ≡ now
-    → ((key : ℤ) → is_below bound key ≡ true → is_above base key ≡ true → base_cells b (object_cell class key) ≡ None) → NamesNone (changes_in layers) class bound named → NamesNone (changes writes) class bound written
+    → ((key : ℤ) → is_below bound key ≡ true → is_above base key ≡ true → base_cells b (object_cell class key) ≡ None) → NamesNone (changes_in layers) class bound named
+    → NamesNone (changes writes) class bound written
     → ((k : ℤ) → is_above under k ≡ true → is_above base k ≡ true) → ((k : ℤ) → is_above under k ≡ true → is_above named k ≡ true)
     → ((k : ℤ) → is_above new k ≡ true → is_above under k ≡ true) → ((k : ℤ) → is_above new k ≡ true → is_above written k ≡ true)
     → (key : ℤ) → is_below bound key ≡ true → is_above new key ≡ true → is_some (over (cells_in now) (changes writes) (object_cell class key)) ≡ false

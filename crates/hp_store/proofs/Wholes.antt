@@ -11,7 +11,8 @@ pub unchanged : (o : Option CellValue) (change : Option (Option CellValue)) → 
 unchanged o change none = ap (changed o) none
 
 -- a layer that names no object of the class leaves them
-pub whole_under : (base : Cells) (layer : Changes) (class : ℕ) (objects : List KeyedRow) → ((key : ℤ) → layer (object_cell class key) ≡ None) → AreObjects base class objects → AreObjects (over base layer) class objects
+pub whole_under : (base : Cells) (layer : Changes) (class : ℕ) (objects : List KeyedRow) → ((key : ℤ) → layer (object_cell class key) ≡ None)
+    → AreObjects base class objects → AreObjects (over base layer) class objects
 whole_under base layer class objects none are = record {
   keys = record { rise = are.keys.rise; has = λ key. are.keys.has key ∙ sym (ap is_some (unchanged (base (object_cell class key)) (layer (object_cell class key)) (none key))) };
   rows = λ i d below.

@@ -20,4 +20,5 @@ are_listed cells keys es = list_all (λ (e : Cell × Option CellValue). is_liste
 abbrev pub all_listed : Stack → Entries → List ℤ → ℕ → Bool
 all_listed s writes keys class =
     list_all (λ e. is_listed (over (cells_in s) (changes writes)) keys (object_cell class e.0)) (entries_at s.base.classes class)
-    && (list_all (λ layer. are_listed (over (cells_in s) (changes writes)) keys (class_entries class layer)) s.layers && are_listed (over (cells_in s) (changes writes)) keys (class_entries class writes))
+    && (list_all (λ layer. are_listed (over (cells_in s) (changes writes)) keys (class_entries class layer)) s.layers
+    && are_listed (over (cells_in s) (changes writes)) keys (class_entries class writes))

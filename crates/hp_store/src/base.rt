@@ -32,7 +32,7 @@ pub(crate) struct Base {
 
 impl Base {
     ghost use Rattle.std.specs.Prelude.{◌≡◌, ◌<◌, ◌^◌, ℤ, true, false, [], None, IfOk, OnOk, OnErr};
-    ghost use Rattle.std.specs.Prelude.{IfSome, IsTrue, MatchOption, option_map, if◌then◌else◌};
+    ghost use Rattle.std.specs.Prelude.{IfSome, IsSome, MatchOption, option_map, if◌then◌else◌};
     ghost use Rattle.hp_store.specs.Tables.{table_at};
     ghost use Rattle.hp_model.specs.Cells.{Cell as ModelCell, object_cell, AreKeys, IsCount, over, same_cell, is_above};
     ghost use Rattle.hp_value.specs.Mapped as mapped;
@@ -134,13 +134,15 @@ impl Base {
         self.between(class, low, high)
     }
 
-    /// Whether these keys are found without a look at the whole class.
-    pub(crate) fn finds(&self, class: ClassNo, part: &ClassPart<'_>) -> bool
-        ensures { is_of_keys part.now ≡ true → IsTrue result }
+    /// The candidates of a part, if they are found without a look at the whole class, as those of a part by keys are.
+    pub(crate) fn found(&self, class: ClassNo, part: &ClassPart<'_>) -> Option<Candidates<'_>>
+        ensures covers { AreComplete (base_cells self.now) self.now.indexes.items → IfSome result (λ keys.
+            Covers (is_among (keys_left keys)) (mapped.class_part part.now) class (base_cells self.now)) }
+        ensures found { is_of_keys part.now ≡ true → IsSome result }
     {
         match (part.attribute, part.bounds) {
-            (Attribute::Key, Bounds::Numbers(_, _)) => true,
-            _ => indexed(&self.indexes, class, part).is_some(),
+            (Attribute::Key, Bounds::Numbers(_, _)) => Some(self.within(class, part)),
+            _ => indexed(&self.indexes, class, part),
         }
     }
 

@@ -54,10 +54,9 @@ impl Snapshot {
             (map mapped.keyed_row objects.items))) }
         ensures found { is_of_keys part.now ≡ true → IfOk result (λ found. IsSome found) }
     {
-        if !self.base.finds(class, part) {
+        let Some(mut keys) = self.candidates_over(alloc, writes, class, part)? else {
             return Ok(None);
-        }
-        let mut keys = self.candidates_over(alloc, writes, class, part)?;
+        };
         sort(&mut keys);
         let found = self.picked(alloc, writes, class, part, &keys)?;
         Ok(found)
@@ -84,22 +83,28 @@ impl Snapshot {
 }
 
 impl Snapshot {
-    // Keys of a class among which all objects of a part are under the writes.
+    // Keys of a class among which all objects of a part are under the writes, if they are found without a look at the
+    // whole class, as those of a part by keys are.
     fn candidates_over(
         &self,
         alloc: Global,
         writes: &Layer,
         class: ClassNo,
         part: &ClassPart<'_>,
-    ) -> Result<Vec<Key>, AllocError>
-        ensures { IfOk result (λ keys. Covers (is_among keys.items) (mapped.class_part part.now) class
-            (over (cells_in self.now) (changes writes.now))) }
+    ) -> Result<Option<Vec<Key>>, AllocError>
+        ensures covers { IfOk result (λ found. IfSome found (λ keys.
+            Covers (is_among keys.items) (mapped.class_part part.now) class
+            (over (cells_in self.now) (changes writes.now)))) }
+        ensures found { is_of_keys part.now ≡ true → IfOk result (λ found. IsSome found) }
     {
+        let Some(found) = self.base.found(class, part) else {
+            return Ok(None);
+        };
         let mut keys = Vec::new(alloc);
-        add(&mut keys, self.base.candidates(class, part))?;
+        add(&mut keys, found)?;
         add_layers(&mut keys, &self.layers, class, part)?;
         add(&mut keys, writes.candidates(class, part))?;
-        Ok(keys)
+        Ok(Some(keys))
     }
 
     // Those of the objects with some keys that belong to a part. None where one of them can't be compared with its

@@ -1,5 +1,6 @@
 -- The steps of the definition of a text in quotes, at a place of the whole text.
-use Rattle.std.proofs.Common.{◌≡◌, refl, sym, ap, ◌∙◌, subst, inl, inr, ◌⊎◌, ℕ, zero, suc, ◌+◌, ◌-◌, ◌<◌, ◌≤◌, Bool, true, false, not, ◌||◌, cond, ◌==◌, nat_lt, List, [], ◌∷◌, ◌++◌, length, take, drop, get_or, Some, None, arith}
+use Rattle.std.proofs.Common.{◌≡◌, refl, sym, ap, ◌∙◌, subst, inl, inr, ◌⊎◌, ℕ, zero, suc, ◌+◌, ◌-◌, ◌<◌, ◌≤◌, Bool, true, false, not, ◌||◌, cond, ◌==◌, nat_lt, List, [], ◌∷◌}
+use Rattle.std.proofs.Common.{◌++◌, length, take, drop, get_or, Some, None, arith}
 use Rattle.std.specs.Prelude.{if◌then◌else◌}
 use Rattle.std.specs.List.{prefix_len}
 use Rattle.std.proofs.lemmas.List.{drop_more, append_assoc, append-nil, drop-drop, drop_all, get_or-drop, length-drop}
@@ -55,7 +56,8 @@ run_byte false x n xs e ih = preceded_by_none (content 0 (x ∷ xs))
 run_byte true x n xs e ih =
     let rest = content 0 (drop n xs) in
     let next : suc n ≡ 1 + n = omega arith in
-    let one : preceded_by ((x ∷ []) ++ take n xs) (1 + n) rest ≡ preceded_by (take (suc n) (x ∷ xs)) (suc n) (content 0 (drop (suc n) (x ∷ xs))) = ap (λ k. preceded_by (x ∷ take n xs) k rest) (sym next) in
+    let one : preceded_by ((x ∷ []) ++ take n xs) (1 + n) rest ≡ preceded_by (take (suc n) (x ∷ xs)) (suc n) (content 0 (drop (suc n) (x ∷ xs))) =
+    ap (λ k. preceded_by (x ∷ take n xs) k rest) (sym next) in
     plain_byte x xs e ∙ ap (preceded (x ∷ [])) ih ∙ preceded_by_one (x ∷ []) (preceded_by (take n xs) n rest) ∙ preceded_twice (x ∷ []) (take n xs) 1 n rest
     ∙ one ∙ ap (λ k. preceded_by (take k (x ∷ xs)) k (content 0 (drop k (x ∷ xs)))) next
 
@@ -113,7 +115,8 @@ at_escape d i c h e some le =
     ∙ preceded_by_one c.bytes (preceded_by [] c.more rest) ∙ preceded_twice c.bytes [] 1 c.more rest
     ∙ (λ j. preceded_by (append-nil c.bytes j) (1 + c.more) (content 0 (drop-drop c.more (i + 1) d j)))
 
-stops_byte : (p : Bool) (x n : ℕ) (xs : List ℕ) → p ≡ is_plain x → (n < length xs → is_plain (get_or xs n 0) ≡ false) → cond p (1 + n) 0 < length (x ∷ xs) → is_plain (get_or (x ∷ xs) (cond p (1 + n) 0) 0) ≡ false
+stops_byte : (p : Bool) (x n : ℕ) (xs : List ℕ) → p ≡ is_plain x → (n < length xs → is_plain (get_or xs n 0) ≡ false) → cond p (1 + n) 0 < length (x ∷ xs)
+    → is_plain (get_or (x ∷ xs) (cond p (1 + n) 0) 0) ≡ false
 stops_byte false x n xs e ih h = sym e
 stops_byte true x n xs e ih h = let next : 1 + n ≡ suc n = omega arith in ap (λ k. is_plain (get_or (x ∷ xs) k 0)) next ∙ ih (omega arith)
 

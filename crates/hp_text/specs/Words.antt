@@ -1,7 +1,9 @@
 -- The reserved words in the order in which they are looked for.
 use Rattle.std.specs.Prelude.{ℕ, List, [], ◌∷◌, map, Option}
 use Rattle.hp_model.specs.Json.{beside}
-use Rattle.hp_model.specs.NotationTokens.{Mark, with_spelling, and_mark, or_mark, not_mark, true_mark, false_mark, new_mark, old_mark, event_mark, key_mark, immediate_mark, deferred_mark, separate_mark, dependent_mark, exclusive_mark, create_mark, update_mark, delete_mark, signal_mark, emit_mark, each_mark, for_mark, with_mark, sub_mark, abort_mark, veto_mark, install_mark, enable_mark, disable_mark, remove_mark, fire_mark}
+use Rattle.hp_model.specs.NotationTokens.{Mark, with_spelling, and_mark, or_mark, not_mark, true_mark, false_mark, new_mark, old_mark, event_mark, key_mark, immediate_mark}
+use Rattle.hp_model.specs.NotationTokens.{deferred_mark, separate_mark, dependent_mark, exclusive_mark, create_mark, update_mark, delete_mark, signal_mark, emit_mark, each_mark}
+use Rattle.hp_model.specs.NotationTokens.{for_mark, with_mark, sub_mark, abort_mark, veto_mark, install_mark, enable_mark, disable_mark, remove_mark, fire_mark}
 
 abbrev pub operation_words : List Mark
 operation_words = install_mark ∷ enable_mark ∷ disable_mark ∷ remove_mark ∷ fire_mark ∷ []

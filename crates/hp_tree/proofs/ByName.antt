@@ -30,7 +30,8 @@ pub insert_is : (rows : List (ObjectName × Row)) (n : ObjectName) (r : Row) →
 insert_is [] n r = refl
 insert_is (e ∷ rows) n r =
     insert_at (names_cmp n e.0) n r e rows (insert_entry names_cmp rows n r)
-    ∙ ap (λ more. match_ordering (names_cmp n e.0) ((object_name n, r) ∷ (object_name e.0, e.1) ∷ objects_of rows) ((object_name e.0, r) ∷ objects_of rows) ((object_name e.0, e.1) ∷ more)) (insert_is rows n r)
+    ∙ ap (λ more. match_ordering (names_cmp n e.0) ((object_name n, r) ∷ (object_name e.0, e.1) ∷ objects_of rows) ((object_name e.0, r) ∷ objects_of rows) ((object_name e.0, e.1) ∷ more))
+    (insert_is rows n r)
 
 remove_at : (here : Bool) (e : ObjectName × Row) (rows more : List (ObjectName × Row))
     → objects_of (cond here rows (e ∷ more)) ≡ cond here (objects_of rows) ((object_name e.0, e.1) ∷ objects_of more)

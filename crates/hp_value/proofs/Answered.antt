@@ -27,14 +27,21 @@ or_first : (b : Bool) (r : KeyedRow) (f : Option KeyedRow) → option_or (if b t
 or_first true r f = refl
 or_first false r f = refl
 
-pub found_is : (x : Name) (o : Option Occurrence) (rows : List (Name × KeyedRow)) (as' : Answers) → found_in (lookup (bytes_eq x) rows) x as' ≡ lookup (bytes_eq x) (with_answers (without_moment o rows []) as').rows
+pub found_is : (x : Name) (o : Option Occurrence) (rows : List (Name × KeyedRow)) (as' : Answers)
+    → found_in (lookup (bytes_eq x) rows) x as' ≡ lookup (bytes_eq x) (with_answers (without_moment o rows []) as').rows
 found_is x o rows [] = refl
 found_is x o rows ((n, []) ∷ as') = ap (λ f. found_in f x as') (or_none (bytes_eq x n) (lookup (bytes_eq x) rows)) ∙ found_is x o rows as'
 found_is x o rows ((n, r ∷ rs) ∷ as') = ap (λ f. found_in f x as') (or_first (bytes_eq x n) r (lookup (bytes_eq x) rows)) ∙ found_is x o ((n, r) ∷ rows) as'
 
 -- answers add names of rows only
 pub with_answers_is : (o : Option Occurrence) (rows : List (Name × KeyedRow)) (values : NamedValues) (now : ℕ) (as' : Answers)
-    → with_answers (record { occurrence = o; rows = rows; values = values; now = now }) as' ≡ record { occurrence = o; rows = (with_answers (without_moment None rows []) as').rows; values = values; now = now }
+    → with_answers (record { occurrence = o; rows = rows; values = values; now = now }) as' ≡ record {
+      occurrence = o;
+      rows = (with_answers (without_moment None rows []) as').rows;
+      values =
+          values;
+      now = now;
+    }
 with_answers_is o rows values now [] = refl
 with_answers_is o rows values now ((n, []) ∷ as') = with_answers_is o rows values now as'
 with_answers_is o rows values now ((n, r ∷ rs) ∷ as') = with_answers_is o ((n, r) ∷ rows) values now as'
@@ -52,6 +59,12 @@ last_is x values (v ∷ vs) = last_is x (v ∷ values) vs
 
 -- values add names of values only
 pub with_values_is : (o : Option Occurrence) (rows : List (Name × KeyedRow)) (values : NamedValues) (now : ℕ) (vs : NamedValues)
-    → with_values (record { occurrence = o; rows = rows; values = values; now = now }) vs ≡ record { occurrence = o; rows = rows; values = (with_values (without_moment None [] values) vs).values; now = now }
+    → with_values (record { occurrence = o; rows = rows; values = values; now = now }) vs ≡ record {
+      occurrence = o;
+      rows = rows;
+      values =
+          (with_values (without_moment None [] values) vs).values;
+      now = now;
+    }
 with_values_is o rows values now [] = refl
 with_values_is o rows values now (v ∷ vs) = with_values_is o rows (v ∷ values) now vs

@@ -1,5 +1,6 @@
 -- Lemmas on rows made of fields and values.
-use Rattle.std.proofs.Common.{◌≡◌, refl, ap, ap₂, subst, ◌++◌, ℤ, ℕ, zero, suc, ◌+◌, ◌<◌, ◌≤◌, min, arith, List, [], ◌∷◌, length, take, drop, map, get_or, slice_get, Option, Some, None, string_bytes, bytes_eq, Bool, true, false, cond, not, ◌&&◌, length-drop, drop-cons, append_assoc, append-nil, sym, ◌∙◌}
+use Rattle.std.proofs.Common.{◌≡◌, refl, ap, ap₂, subst, ◌++◌, ℤ, ℕ, zero, suc, ◌+◌, ◌<◌, ◌≤◌, min, arith, List, [], ◌∷◌, length, take, drop, map, get_or, slice_get, Option, Some}
+use Rattle.std.proofs.Common.{None, string_bytes, bytes_eq, Bool, true, false, cond, not, ◌&&◌, length-drop, drop-cons, append_assoc, append-nil, sym, ◌∙◌}
 use Rattle.std.specs.Map.{lookup}
 use Rattle.std.proofs.lemmas.List.{drop_more, drop_all, take-map, drop-map}
 use Rattle.std.proofs.lemmas.Option.{slice_get_read, slice_get_past}

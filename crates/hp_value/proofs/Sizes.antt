@@ -1,6 +1,7 @@
 -- How large expressions are.
 use Rattle.std.proofs.Common.{ℕ, suc, ◌+◌}
-use Rattle.hp_model.specs.Expressions.{Expression, constant, arithmetic, negated, inverted, both, either, compared, field_of, key_of, new_field, old_field, key_in, argument, time_of, occurrence_count, value_named, time_now}
+use Rattle.hp_model.specs.Expressions.{Expression, constant, arithmetic, negated, inverted, both, either, compared, field_of, key_of, new_field, old_field, key_in, argument}
+use Rattle.hp_model.specs.Expressions.{time_of, occurrence_count, value_named, time_now}
 
 -- the number of operators in an expression
 abbrev pub operators : Expression → ℕ

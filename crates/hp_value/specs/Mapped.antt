@@ -34,7 +34,8 @@ use Rattle.hp_value.specs.declared.expr.Arithmetic.TheVariants.{Plus, Minus, Tim
 use Rattle.hp_value.specs.declared.expr.Comparison.{Comparison}
 use Rattle.hp_value.specs.declared.expr.Comparison.TheVariants.{Equal, Unequal, Less, AtMost, Greater, AtLeast}
 use Rattle.hp_value.specs.declared.expr.Expr.{Expr}
-use Rattle.hp_value.specs.declared.expr.Expr.TheVariants.{Constant, Arithmetic', Comparison', Negated', Not', And', Or', FieldOf, KeyOf, NewField, OldField, KeyIn, Argument, TimeOf, Count, ValueOf, Now}
+use Rattle.hp_value.specs.declared.expr.Expr.TheVariants.{Constant, Arithmetic', Comparison', Negated', Not', And', Or', FieldOf, KeyOf, NewField, OldField, KeyIn, Argument}
+use Rattle.hp_value.specs.declared.expr.Expr.TheVariants.{TimeOf, Count, ValueOf, Now}
 use Rattle.hp_value.specs.declared.env.Answer.{Answer}
 use Rattle.hp_value.specs.declared.env.Names.{Names, fold-Names}
 use Rattle.hp_value.specs.declared.env.Names.TheOpen.{Names-F}

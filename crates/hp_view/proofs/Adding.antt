@@ -23,7 +23,8 @@ pub adds_more : {P Q : Read → Type 0} {before after : List Read} → ((r : Rea
 adds_more more adds = record { others = adds.others; are = adds.are; allowed = all_more adds.others more adds.allowed }
 
 -- a cell that is read adds its read, where no write covers it
-pub adds_cell : (P : Read → Type 0) {old new : Seeing} (cell : Cell) → (written old cell ≡ None → P (cell_read cell (beneath old cell))) → new ≡ record old { reads = read_cell old cell } → AddsReads P old.reads new.reads
+pub adds_cell : (P : Read → Type 0) {old new : Seeing} (cell : Cell) → (written old cell ≡ None → P (cell_read cell (beneath old cell)))
+    → new ≡ record old { reads = read_cell old cell } → AddsReads P old.reads new.reads
 adds_cell P {old} cell fits is = subst (AddsReads P old.reads) (sym (ap (λ (v : Seeing). v.reads) is)) (by (written old cell) refl)
   where
     by : (w : Option (Option CellValue)) → written old cell ≡ w → AddsReads P old.reads (noted_unless w old.reads (cell_read cell (beneath old cell)))
@@ -47,13 +48,16 @@ adds_row {first} {old} {new} class key only so_far is =
 -- ---- a call of `read_objects`
 
 -- the class as a whole, if it is found so
-pub adds_whole : {A : Type 0} (objects_in : A → List KeyedRow) (old new : Seeing) (class : ℕ) (found : Option A) → IfSome found (λ a. new ≡ record old { reads = noted old.reads (objects_read class (objects_in a)) }) → IfNone found (new ≡ old)
+pub adds_whole : {A : Type 0} (objects_in : A → List KeyedRow) (old new : Seeing) (class : ℕ) (found : Option A)
+    → IfSome found (λ a. new ≡ record old { reads = noted old.reads (objects_read class (objects_in a)) }) → IfNone found (new ≡ old)
     → AddsReads (IsOfClass (written old) class) old.reads new.reads
 adds_whole objects_in old new class (Some a) some none =
-    subst (AddsReads (IsOfClass (written old) class) old.reads) (sym (ap (λ (v : Seeing). v.reads) some)) (adds_noted (IsOfClass (written old) class) old.reads (objects_read class (objects_in a)) refl)
+    subst (AddsReads (IsOfClass (written old) class) old.reads) (sym (ap (λ (v : Seeing). v.reads) some))
+    (adds_noted (IsOfClass (written old) class) old.reads (objects_read class (objects_in a)) refl)
 adds_whole objects_in old new class None some none = adds_none (IsOfClass (written old) class) (ap (λ (v : Seeing). v.reads) none)
 
 -- what was added further on, over the same writes
-pub adds_on : {first old : Seeing} (new : Seeing) (class : ℕ) → OnlyReads first old → AddsReads (IsOfClass (written first) class) first.reads old.reads → AddsReads (IsOfClass (written old) class) old.reads new.reads
+pub adds_on : {first old : Seeing} (new : Seeing) (class : ℕ) → OnlyReads first old → AddsReads (IsOfClass (written first) class) first.reads old.reads
+    → AddsReads (IsOfClass (written old) class) old.reads new.reads
     → AddsReads (IsOfClass (written first) class) first.reads new.reads
 adds_on {first} {old} new class only so_far more = adds_then so_far (subst (λ es. AddsReads (IsOfClass (changes es) class) old.reads new.reads) only.writes more)

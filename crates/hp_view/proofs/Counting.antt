@@ -1,8 +1,10 @@
 -- The number of a class's objects: what it is wherever the reads hold.
-use Rattle.std.proofs.Common.{◌≡◌, refl, sym, ap, ap₂, ◌∙◌, subst, ℕ, ℤ, Bool, true, false, true≢false, ◌&&◌, ◌||◌, ◌==◌, cond, List, [], ◌∷◌, ◌++◌, length, Option, Some, None, inl, is_some, if◌then◌else◌}
+use Rattle.std.proofs.Common.{◌≡◌, refl, sym, ap, ap₂, ◌∙◌, subst, ℕ, ℤ, Bool, true, false, true≢false, ◌&&◌, ◌||◌, ◌==◌, cond, List, [], ◌∷◌, ◌++◌, length, Option, Some, None}
+use Rattle.std.proofs.Common.{inl, is_some, if◌then◌else◌}
 use Rattle.std.specs.List.{list_any}
 use Rattle.std.proofs.lemmas.Bool.Decides.{Decides-eqb, Decides-int_eq}
-use Rattle.hp_model.specs.Cells.{Cell, object_cell, rule_cell, detector_cell, CellValue, Cells, Changes, changed, over, same_cell, Read, cell_read, keys_read, greatest_read, count_read, objects_read, part_read, ReadsHold, Holds, AreKeys, IsCount}
+use Rattle.hp_model.specs.Cells.{Cell, object_cell, rule_cell, detector_cell, CellValue, Cells, Changes, changed, over, same_cell, Read, cell_read, keys_read, greatest_read}
+use Rattle.hp_model.specs.Cells.{count_read, objects_read, part_read, ReadsHold, Holds, AreKeys, IsCount}
 use Rattle.hp_model.proofs.BridgesCells.{exact_cell, Holds-front, Holds-last}
 use Rattle.hp_store.specs.Changes.{Entries, changes, is_of_class, class_entries}
 use Rattle.hp_store.proofs.Counted.{one_count, same_count, count_over_same}
@@ -15,7 +17,8 @@ use Rattle.hp_view.proofs.Reading.{itself_again, keys_again, keys_noted, noted-a
 pub keys_count : {base : Cells} {class : ℕ} {keys : List ℤ} → AreKeys base class keys → IsCount base class (length keys)
 keys_count {base} {class} {keys} are = record { keys = keys; are = are; number = refl }
 
-count_same : {B S : Cells} (layer : Changes) (class : ℕ) (keys : List ℤ) (count : ℕ) → AreKeys B class keys → AreKeys S class keys → IsCount (over S layer) class count → IsCount (over B layer) class count
+count_same : {B S : Cells} (layer : Changes) (class : ℕ) (keys : List ℤ) (count : ℕ) → AreKeys B class keys → AreKeys S class keys → IsCount (over S layer) class count
+    → IsCount (over B layer) class count
 count_same {B} {S} layer class keys count here there is = same_count (λ key. same key (layer (object_cell class key))) is
   where
     same : (k : ℤ) (change : Option (Option CellValue)) → is_some (changed (S (object_cell class k)) change) ≡ is_some (changed (B (object_cell class k)) change)
@@ -25,7 +28,8 @@ count_same {B} {S} layer class keys count here there is = same_count (λ key. sa
 -- ---- wherever the reads hold
 
 -- a number that was read
-count_again : (B C : Cells) (class : ℕ) (count : ℕ) (reads : List Read) → ReadsHold B reads → ReadsHold C reads → IsCount C class count → list_any (reads_count class) reads ≡ true → IsCount B class count
+count_again : (B C : Cells) (class : ℕ) (count : ℕ) (reads : List Read) → ReadsHold B reads → ReadsHold C reads → IsCount C class count → list_any (reads_count class) reads ≡ true
+    → IsCount B class count
 count_again B C class count [] b c is h = absurd (true≢false (sym h))
 count_again B C class count (cell_read q value ∷ rs) b c is h = count_again B C class count rs b.1 c.1 is h
 count_again B C class count (keys_read n keys ∷ rs) b c is h = count_again B C class count rs b.1 c.1 is h
@@ -41,7 +45,8 @@ count_again B C class count (count_read n found ∷ rs) b c is h = by (class == 
     by false e h rest = rest h
 
 -- one that is noted where the keys weren't read
-count_noted : (B C : Cells) (class : ℕ) (count : ℕ) (reads : List Read) → Holds C reads → IsCount C class count → keys_were_read reads class ≡ false → Holds B (noted reads (count_read class count)) → IsCount B class count
+count_noted : (B C : Cells) (class : ℕ) (count : ℕ) (reads : List Read) → Holds C reads → IsCount C class count → keys_were_read reads class ≡ false
+    → Holds B (noted reads (count_read class count)) → IsCount B class count
 count_noted B C class count reads c is no_keys b = by (count_was_read reads class) refl b
   where
     alone : (s t : Bool) → t ≡ false → (s || t) ≡ true → s ≡ true
@@ -62,7 +67,8 @@ rest_true : (a b : Bool) → (a && b) ≡ true → b ≡ true
 rest_true true b h = h
 rest_true false b h = absurd (true≢false (sym h))
 
-pub each_read : (reads : List Read) (class : ℕ) (es : Entries) → all_read reads (class_entries class es) ≡ true → (key : ℤ) → is_some (changes es (object_cell class key)) ≡ true → list_any (reads_cell (object_cell class key)) reads ≡ true
+pub each_read : (reads : List Read) (class : ℕ) (es : Entries) → all_read reads (class_entries class es) ≡ true → (key : ℤ) → is_some (changes es (object_cell class key)) ≡ true
+    → list_any (reads_cell (object_cell class key)) reads ≡ true
 each_read reads class [] all key named = absurd (true≢false (sym named))
 each_read reads class ((c, v) ∷ es) all key named = by (same_cell c (object_cell class key)) refl (each_read reads class es)
   where
@@ -78,7 +84,8 @@ each_read reads class ((c, v) ∷ es) all key named = by (same_cell c (object_ce
         → list_any (reads_cell (object_cell class key)) reads ≡ true
     by true is next =
         subst (λ d. list_any (reads_cell d) reads ≡ true) (exact_cell c (object_cell class key) is)
-        (first_true (list_any (reads_cell c) reads) (all_read reads (class_entries class es)) (ap (λ b. all_read reads (cond b ((c, v) ∷ class_entries class es) (class_entries class es))) (sym (of is)) ∙ all))
+        (first_true (list_any (reads_cell c) reads) (all_read reads (class_entries class es))
+        (ap (λ b. all_read reads (cond b ((c, v) ∷ class_entries class es) (class_entries class es))) (sym (of is)) ∙ all))
     by false is next = next (rest (is_of_class class c) all) key (sym (ap (λ b. is_some (if b then Some v else changes es (object_cell class key))) is) ∙ named)
 
 abbrev Unread : List Read → ℕ → Entries → Type 0

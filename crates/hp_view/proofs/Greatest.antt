@@ -1,5 +1,6 @@
 -- The greatest key of a class: there is one of them, and what it is wherever the reads hold.
-use Rattle.std.proofs.Common.{◌≡◌, refl, sym, ap, ◌∙◌, subst, ℕ, ℤ, Bool, true, false, true≢false, ◌||◌, ◌==◌, cond, List, [], ◌∷◌, ◌++◌, Option, Some, None, Result, Ok, Err, inl, is_some, int_eq, int_lt}
+use Rattle.std.proofs.Common.{◌≡◌, refl, sym, ap, ◌∙◌, subst, ℕ, ℤ, Bool, true, false, true≢false, ◌||◌, ◌==◌, cond, List, [], ◌∷◌, ◌++◌, Option, Some, None, Result, Ok, Err, inl}
+use Rattle.std.proofs.Common.{is_some, int_eq, int_lt}
 use Rattle.std.specs.Prelude.{MatchOption, OnOk, if◌then◌else◌}
 use Rattle.std.specs.declared.cmp.Ordering.TheVariants.{Less, Equal, Greater}
 use Rattle.std.specs.Ordering.{int_cmp}
@@ -8,7 +9,8 @@ use Rattle.std.specs.List.Sorted.{IsStrictlySortedBy}
 use Rattle.std.proofs.lemmas.Bool.Decides.{Decides-eqb, Decides-int_eq}
 use Rattle.std.proofs.lemmas.Cmp.{int_cmp_total, tied_itself}
 use Rattle.std.proofs.lemmas.Map.Lookups.{exact_signed}
-use Rattle.hp_model.specs.Cells.{CellValue, Cells, Changes, object_cell, changed, over, is_above, is_there, Read, cell_read, keys_read, greatest_read, count_read, objects_read, part_read, ReadsHold, Holds, AreKeys, IsGreatestKey}
+use Rattle.hp_model.specs.Cells.{CellValue, Cells, Changes, object_cell, changed, over, is_above, is_there, Read, cell_read, keys_read, greatest_read, count_read, objects_read}
+use Rattle.hp_model.specs.Cells.{part_read, ReadsHold, Holds, AreKeys, IsGreatestKey}
 use Rattle.hp_model.proofs.BridgesCells.{Holds-last}
 use Rattle.hp_view.specs.Seeing.{Seeing, beneath, written, now_in, reads_greatest, keys_were_read, greatest_was_read, noted, OnlyReads, ReadsKeys, DeletesGreatest, ReadsGreatest, ShowsGreatest}
 use Rattle.hp_view.proofs.Reading.{keys_again, keys_noted, noted-again, noted_only, noted_held}
@@ -112,7 +114,8 @@ keys_greatest base class (x ∷ xs) are = subst (IsGreatestKey base class) (sym 
 -- ---- the same under the same writes
 
 -- cells with the same keys
-greatest_same : {B S : Cells} (layer : Changes) (class : ℕ) (keys : List ℤ) (greatest : Option ℤ) → AreKeys B class keys → AreKeys S class keys → IsGreatestKey (over S layer) class greatest → IsGreatestKey (over B layer) class greatest
+greatest_same : {B S : Cells} (layer : Changes) (class : ℕ) (keys : List ℤ) (greatest : Option ℤ) → AreKeys B class keys → AreKeys S class keys
+    → IsGreatestKey (over S layer) class greatest → IsGreatestKey (over B layer) class greatest
 greatest_same {B} {S} layer class keys greatest here there is = record { there = top greatest is.there; above = λ k h. same k (layer (object_cell class k)) ∙ is.above k h }
   where
     same : (k : ℤ) (change : Option (Option CellValue)) → is_some (changed (B (object_cell class k)) change) ≡ is_some (changed (S (object_cell class k)) change)
@@ -124,7 +127,8 @@ greatest_same {B} {S} layer class keys greatest here there is = record { there =
     top (Some k) h = same k (layer (object_cell class k)) ∙ h
 
 -- cells with the same greatest key, where the greatest one under the writes isn't below it
-greatest_over : {B S : Cells} (layer : Changes) (class : ℕ) (under greatest : Option ℤ) → ((k : ℤ) → is_above greatest k ≡ true → is_above under k ≡ true) → IsGreatestKey B class under → IsGreatestKey S class under
+greatest_over : {B S : Cells} (layer : Changes) (class : ℕ) (under greatest : Option ℤ) → ((k : ℤ) → is_above greatest k ≡ true → is_above under k ≡ true)
+    → IsGreatestKey B class under → IsGreatestKey S class under
     → IsGreatestKey (over S layer) class greatest → IsGreatestKey (over B layer) class greatest
 greatest_over {B} {S} layer class under greatest up here there is = record { there = top greatest up is.there; above = λ k h. same k (up k h) ∙ is.above k h }
   where
@@ -157,7 +161,8 @@ greatest_over {B} {S} layer class under greatest up here there is = record { the
 -- ---- wherever the reads hold
 
 -- a greatest key that was read
-greatest_again : (B C : Cells) (class : ℕ) (greatest : Option ℤ) (reads : List Read) → ReadsHold B reads → ReadsHold C reads → IsGreatestKey C class greatest → list_any (reads_greatest class) reads ≡ true → IsGreatestKey B class greatest
+greatest_again : (B C : Cells) (class : ℕ) (greatest : Option ℤ) (reads : List Read) → ReadsHold B reads → ReadsHold C reads → IsGreatestKey C class greatest
+    → list_any (reads_greatest class) reads ≡ true → IsGreatestKey B class greatest
 greatest_again B C class greatest [] b c is h = absurd (true≢false (sym h))
 greatest_again B C class greatest (cell_read q value ∷ rs) b c is h = greatest_again B C class greatest rs b.1 c.1 is h
 greatest_again B C class greatest (keys_read n keys ∷ rs) b c is h = greatest_again B C class greatest rs b.1 c.1 is h
@@ -166,14 +171,16 @@ greatest_again B C class greatest (objects_read n objects ∷ rs) b c is h = gre
 greatest_again B C class greatest (part_read n part objects ∷ rs) b c is h = greatest_again B C class greatest rs b.1 c.1 is h
 greatest_again B C class greatest (greatest_read n found ∷ rs) b c is h = by (class == n) refl h (greatest_again B C class greatest rs b.1 c.1 is)
   where
-    by : (t : Bool) → (class == n) ≡ t → (t || list_any (reads_greatest class) rs) ≡ true → (list_any (reads_greatest class) rs ≡ true → IsGreatestKey B class greatest) → IsGreatestKey B class greatest
+    by : (t : Bool) → (class == n) ≡ t → (t || list_any (reads_greatest class) rs) ≡ true → (list_any (reads_greatest class) rs ≡ true → IsGreatestKey B class greatest)
+        → IsGreatestKey B class greatest
     by true e h rest =
         let here : n ≡ class = sym ((Decides-eqb class n).0 e) in
         subst (IsGreatestKey B class) (one_greatest (subst (λ k. IsGreatestKey C k found) here c.0) is) (subst (λ k. IsGreatestKey B k found) here b.0)
     by false e h rest = rest h
 
 -- one that is noted where the keys weren't read
-greatest_noted : (B C : Cells) (class : ℕ) (greatest : Option ℤ) (reads : List Read) → Holds C reads → IsGreatestKey C class greatest → keys_were_read reads class ≡ false → Holds B (noted reads (greatest_read class greatest))
+greatest_noted : (B C : Cells) (class : ℕ) (greatest : Option ℤ) (reads : List Read) → Holds C reads → IsGreatestKey C class greatest → keys_were_read reads class ≡ false
+    → Holds B (noted reads (greatest_read class greatest))
     → IsGreatestKey B class greatest
 greatest_noted B C class greatest reads c is no_keys b = by (greatest_was_read reads class) refl b
   where
@@ -199,17 +206,20 @@ reads_greatest_again {v} {old} class keys from are again =
     with_keys : greatest_was_read v.reads class ≡ true
     with_keys = either_true (list_any (reads_greatest class) v.reads) (keys_were_read v.reads class) again
 
-pub shows_greatest_again : {v old : Seeing} (class : ℕ) (keys : List ℤ) (greatest : Option ℤ) → v ≡ old → Holds (beneath v) v.reads → AreKeys (beneath v) class keys → keys_were_read v.reads class ≡ true
+pub shows_greatest_again : {v old : Seeing} (class : ℕ) (keys : List ℤ) (greatest : Option ℤ) → v ≡ old → Holds (beneath v) v.reads → AreKeys (beneath v) class keys
+    → keys_were_read v.reads class ≡ true
     → IsGreatestKey (now_in old) class greatest → ShowsGreatest old class greatest
 shows_greatest_again {v} {old} class keys greatest from held are again is =
     subst (λ u. ShowsGreatest u class greatest) from
     (record {
       everywhere = λ base here.
-          greatest_same (written v) class keys greatest (keys_again base (beneath v) class keys v.reads here.each held.each are again) are (subst (λ u. IsGreatestKey (now_in u) class greatest) (sym from) is);
+          greatest_same (written v) class keys greatest (keys_again base (beneath v) class keys v.reads here.each held.each are again) are
+          (subst (λ u. IsGreatestKey (now_in u) class greatest) (sym from) is);
     })
 
 -- where the keys are read
-pub shows_by_keys : {v old new : Seeing} (class : ℕ) (greatest : Option ℤ) → v ≡ old → Holds (beneath v) v.reads → IsGreatestKey (now_in old) class greatest → ReadsKeys old new class → ShowsGreatest new class greatest
+pub shows_by_keys : {v old new : Seeing} (class : ℕ) (greatest : Option ℤ) → v ≡ old → Holds (beneath v) v.reads → IsGreatestKey (now_in old) class greatest
+    → ReadsKeys old new class → ShowsGreatest new class greatest
 shows_by_keys {v} {old} {new} class greatest from held is reads =
     subst (λ u. ShowsGreatest u class greatest) (sym reads.keys.2)
     (record {
@@ -218,12 +228,20 @@ shows_by_keys {v} {old} {new} class greatest from held is reads =
           (keys_noted base (beneath old) class reads.keys.0 old.reads (subst (λ u. Holds (beneath u) u.reads) from held) reads.keys.1 here) reads.keys.1 is;
     })
 
-pub deletes_greatest : {v old : Seeing} (class : ℕ) (under greatest : Option ℤ) → v ≡ old → IsGreatestKey (beneath v) class under → IsGreatestKey (now_in old) class greatest → MatchOption under ⊥ (λ k. is_above greatest k ≡ true)
+pub deletes_greatest : {v old : Seeing} (class : ℕ) (under greatest : Option ℤ) → v ≡ old → IsGreatestKey (beneath v) class under → IsGreatestKey (now_in old) class greatest
+    → MatchOption under ⊥ (λ k. is_above greatest k ≡ true)
     → DeletesGreatest old class
 deletes_greatest {v} {old} class None greatest from there is above = absurd above
 deletes_greatest {v} {old} class (Some k) greatest from there is above =
     subst (λ u. DeletesGreatest u class) from
-    (record { greatest = (k, there, gone (beneath v (object_cell class k)) (written v (object_cell class k)) there.there ((subst (λ u. IsGreatestKey (now_in u) class greatest) (sym from) is).above k above)) })
+    (record {
+      greatest = (
+        k,
+        there,
+        gone (beneath v (object_cell class k)) (written v (object_cell class k)) there.there
+            ((subst (λ u. IsGreatestKey (now_in u) class greatest) (sym from) is).above k above),
+      );
+    })
   where
     gone : (b : Option CellValue) (w : Option (Option CellValue)) → is_some b ≡ true → is_some (changed b w) ≡ false → w ≡ Some None
     gone b None h g = absurd (true≢false (sym h ∙ g))
@@ -247,8 +265,10 @@ pub record NotedGreatest (v old : Seeing) (class : ℕ) (greatest : Option ℤ) 
   pub shows : ShowsGreatest (record v { reads = reads }) class greatest
   pub only : OnlyReads old (record v { reads = reads })
 
-pub noted_greatest : {v old : Seeing} (class : ℕ) (under greatest : Option ℤ) (reads : List Read) → v ≡ old → Holds (beneath v) v.reads → IsGreatestKey (beneath v) class under → IsGreatestKey (now_in old) class greatest
-    → ((k : ℤ) → is_above greatest k ≡ true → is_above under k ≡ true) → keys_were_read v.reads class ≡ false → reads ≡ noted v.reads (greatest_read class under) → NotedGreatest v old class greatest reads
+pub noted_greatest : {v old : Seeing} (class : ℕ) (under greatest : Option ℤ) (reads : List Read) → v ≡ old → Holds (beneath v) v.reads → IsGreatestKey (beneath v) class under
+    → IsGreatestKey (now_in old) class greatest
+    → ((k : ℤ) → is_above greatest k ≡ true → is_above under k ≡ true) → keys_were_read v.reads class ≡ false → reads ≡ noted v.reads (greatest_read class under)
+    → NotedGreatest v old class greatest reads
 noted_greatest {v} {old} class under greatest reads from held there is up no_keys noting = record {
   held = noted_held v (greatest_read class under) reads held there noting;
   reads_it = subst (λ u. ReadsGreatest u (record v { reads = reads }) class) from (record { either = inl (record { greatest = (under, there, λ i. record v { reads = noting i }) }) });

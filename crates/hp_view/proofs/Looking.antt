@@ -37,12 +37,14 @@ objects_shown {v} {class} {objects} shows world rise allowed =
     (λ i d below. allowed.objects class (slice_index_or (rows_of class world) i d).key ∙ ap (option_map row_value) (rows_found class world rise i d below))
 
 -- a part of a class that was read is picked from the objects in each world
-pub part_shown : {v : Seeing} {class : ℕ} {p : ClassPart} {objects : List KeyedRow} → ShowsPart v class p objects → (world : Objects) → ObjectsRise world → Allows v world → picked p (rows_of class world) ≡ Ok objects
+pub part_shown : {v : Seeing} {class : ℕ} {p : ClassPart} {objects : List KeyedRow} → ShowsPart v class p objects → (world : Objects) → ObjectsRise world
+    → Allows v world → picked p (rows_of class world) ≡ Ok objects
 part_shown {v} {class} {p} {objects} shows world rise allowed =
     part_picked (over allowed.base (written v)) class p objects world rise (shows.everywhere allowed.base allowed.held) (allowed.objects class)
 
 -- a greatest key that was read is the last of the class's keys in each world
-pub greatest_shown : {v : Seeing} {class : ℕ} {greatest : Option ℤ} → ShowsGreatest v class greatest → (world : Objects) → ObjectsRise world → Allows v world → greatest ≡ last_or None (class_keys class world)
+pub greatest_shown : {v : Seeing} {class : ℕ} {greatest : Option ℤ} → ShowsGreatest v class greatest → (world : Objects) → ObjectsRise world → Allows v world
+    → greatest ≡ last_or None (class_keys class world)
 greatest_shown {v} {class} {greatest} shows world rise allowed =
     one_greatest (shows.everywhere allowed.base allowed.held)
     (keys_greatest (over allowed.base (written v)) class (class_keys class world)

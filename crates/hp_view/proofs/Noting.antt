@@ -110,7 +110,8 @@ class_told base class (Objects objects) told = told.keys
 class_told base class (Part part) told = told
 
 -- the keys that are recorded for a class are told
-pub told_keys : (class : ℕ) (found : Found) (base : Cells) (es : List (Seen × Found)) → lookup (seeing.ghosts.eq (OfKeys class)) es ≡ Some found → ReadsHold base (map read es) → AreKeys base class (keys_found found)
+pub told_keys : (class : ℕ) (found : Found) (base : Cells) (es : List (Seen × Found)) → lookup (seeing.ghosts.eq (OfKeys class)) es ≡ Some found
+    → ReadsHold base (map read es) → AreKeys base class (keys_found found)
 told_keys class found base [] h told = cc
 told_keys class found base ((OfCell q, other) ∷ es) h told = told_keys class found base es h told.1
 told_keys class found base ((OfGreatest n, other) ∷ es) h told = told_keys class found base es h told.1
@@ -118,14 +119,16 @@ told_keys class found base ((OfCount n, other) ∷ es) h told = told_keys class 
 told_keys class found base ((OfPart n m, other) ∷ es) h told = told_keys class found base es h told.1
 told_keys class found base ((OfKeys n, other) ∷ es) h told = by (class == n) refl h (λ g. told_keys class found base es g told.1)
   where
-    by : (b : Bool) → (class == n) ≡ b → cond b (Some other) (lookup (seeing.ghosts.eq (OfKeys class)) es) ≡ Some found → (lookup (seeing.ghosts.eq (OfKeys class)) es ≡ Some found → AreKeys base class (keys_found found)) → AreKeys base class (keys_found found)
+    by : (b : Bool) → (class == n) ≡ b → cond b (Some other) (lookup (seeing.ghosts.eq (OfKeys class)) es) ≡ Some found
+        → (lookup (seeing.ghosts.eq (OfKeys class)) es ≡ Some found → AreKeys base class (keys_found found)) → AreKeys base class (keys_found found)
     by true e h rest =
         let same : other ≡ found = cc in
         subst (λ f. AreKeys base class (keys_found f)) same (subst (λ k. AreKeys base k (keys_found other)) (sym ((Decides-eqb class n).0 e)) (class_told base n other told.0))
     by false e h rest = rest h
 
 -- all objects that are recorded for a class are told
-pub told_objects : (class : ℕ) (objects : Arc ObjectList Global) (base : Cells) (es : List (Seen × Found)) → lookup (seeing.ghosts.eq (OfKeys class)) es ≡ Some (Objects objects) → ReadsHold base (map read es) → AreObjects base class objects.value
+pub told_objects : (class : ℕ) (objects : Arc ObjectList Global) (base : Cells) (es : List (Seen × Found)) → lookup (seeing.ghosts.eq (OfKeys class)) es ≡ Some (Objects objects)
+    → ReadsHold base (map read es) → AreObjects base class objects.value
 told_objects class objects base [] h told = cc
 told_objects class objects base ((OfCell q, other) ∷ es) h told = told_objects class objects base es h told.1
 told_objects class objects base ((OfGreatest n, other) ∷ es) h told = told_objects class objects base es h told.1
@@ -133,14 +136,16 @@ told_objects class objects base ((OfCount n, other) ∷ es) h told = told_object
 told_objects class objects base ((OfPart n m, other) ∷ es) h told = told_objects class objects base es h told.1
 told_objects class objects base ((OfKeys n, other) ∷ es) h told = by (class == n) refl h (λ g. told_objects class objects base es g told.1)
   where
-    by : (b : Bool) → (class == n) ≡ b → cond b (Some other) (lookup (seeing.ghosts.eq (OfKeys class)) es) ≡ Some (Objects objects) → (lookup (seeing.ghosts.eq (OfKeys class)) es ≡ Some (Objects objects) → AreObjects base class objects.value) → AreObjects base class objects.value
+    by : (b : Bool) → (class == n) ≡ b → cond b (Some other) (lookup (seeing.ghosts.eq (OfKeys class)) es) ≡ Some (Objects objects)
+        → (lookup (seeing.ghosts.eq (OfKeys class)) es ≡ Some (Objects objects) → AreObjects base class objects.value) → AreObjects base class objects.value
     by true e h rest =
         let same : other ≡ Objects objects = cc in
         subst (λ k. AreObjects base k objects.value) (sym ((Decides-eqb class n).0 e)) (subst (λ f. ReadHolds base (class_read n f)) same told.0)
     by false e h rest = rest h
 
 -- what is recorded for a cell is told
-pub told_value : (q : Cell) (found : Found) (base : Cells) (es : List (Seen × Found)) → lookup (seeing.ghosts.eq (OfCell q)) es ≡ Some found → ReadsHold base (map read es) → value_found found ≡ base (cell q)
+pub told_value : (q : Cell) (found : Found) (base : Cells) (es : List (Seen × Found)) → lookup (seeing.ghosts.eq (OfCell q)) es ≡ Some found
+    → ReadsHold base (map read es) → value_found found ≡ base (cell q)
 told_value q found base [] h told = cc
 told_value q found base ((OfKeys n, other) ∷ es) h told = told_value q found base es h told.1
 told_value q found base ((OfGreatest n, other) ∷ es) h told = told_value q found base es h told.1
@@ -148,7 +153,8 @@ told_value q found base ((OfCount n, other) ∷ es) h told = told_value q found 
 told_value q found base ((OfPart n m, other) ∷ es) h told = told_value q found base es h told.1
 told_value q found base ((OfCell p, other) ∷ es) h told = by (seeing.ghosts.eq (OfCell q) (OfCell p)) refl h (λ g. told_value q found base es g told.1)
   where
-    by : (b : Bool) → seeing.ghosts.eq (OfCell q) (OfCell p) ≡ b → cond b (Some other) (lookup (seeing.ghosts.eq (OfCell q)) es) ≡ Some found → (lookup (seeing.ghosts.eq (OfCell q)) es ≡ Some found → value_found found ≡ base (cell q)) → value_found found ≡ base (cell q)
+    by : (b : Bool) → seeing.ghosts.eq (OfCell q) (OfCell p) ≡ b → cond b (Some other) (lookup (seeing.ghosts.eq (OfCell q)) es) ≡ Some found
+        → (lookup (seeing.ghosts.eq (OfCell q)) es ≡ Some found → value_found found ≡ base (cell q)) → value_found found ≡ base (cell q)
     by true e h rest =
         let same : other ≡ found = cc in
         ap value_found (sym same) ∙ sym told.0 ∙ sym (ap base (exact_cell (cell q) (cell p) (sym (told_apart (OfCell q) (OfCell p, other) tt) ∙ e)))
@@ -218,7 +224,8 @@ told_number class n found ((OfPart d m, other) ∷ es) h = by (class == d) (n ==
     by : (b c : Bool) → (class == d) ≡ b → cond (b && c) (Some other) (lookup (seeing.ghosts.eq (OfPart class n)) es) ≡ Some found
         → (lookup (seeing.ghosts.eq (OfPart class n)) es ≡ Some found → part_was_read (map read es) class (part_found found) ≡ true)
         → (class == d && same_part (part_found found) (part_found other) || part_was_read (map read es) class (part_found found)) ≡ true
-    by true true e h rest = ap₂ (λ x y. x && y || part_was_read (map read es) class (part_found found)) e (subst (λ f. same_part (part_found found) (part_found f) ≡ true) (sym (the_same h)) (same_part_itself (part_found found)))
+    by true true e h rest = ap₂ (λ x y. x && y || part_was_read (map read es) class (part_found found)) e
+        (subst (λ f. same_part (part_found found) (part_found f) ≡ true) (sym (the_same h)) (same_part_itself (part_found found)))
       where
         the_same : Some other ≡ Some found → other ≡ found
         the_same g = cc
@@ -250,7 +257,8 @@ copied_some None = refl
 copied_some (Some a) = refl
 
 -- the objects that were found, read through their reference
-pub told_whole : {now : List Read} (class : ℕ) (found : Found) (es : List (Seen × Found)) (r : Option (Bor (Arc ObjectList Global))) → lookup (seeing.ghosts.eq (OfKeys class)) es ≡ Some found → IfSome r (λ objects. found ≡ Objects objects.now)
+pub told_whole : {now : List Read} (class : ℕ) (found : Found) (es : List (Seen × Found)) (r : Option (Bor (Arc ObjectList Global)))
+    → lookup (seeing.ghosts.eq (OfKeys class)) es ≡ Some found → IfSome r (λ objects. found ≡ Objects objects.now)
     → map read es ≡ now → IfSome r (λ objects. (base : Cells) → Holds base now → AreObjects base class objects.now.value)
 told_whole class found es None there some is = tt
 told_whole class found es (Some objects) there some is = λ base held. told_objects class objects.now base es (there ∙ ap Some some) (subst (Holds base) (sym is) held).each

@@ -62,14 +62,16 @@ part_told C class p (count_read n count ∷ rs) c h = part_told C class p rs c.1
 part_told C class p (objects_read n objects ∷ rs) c h = part_told C class p rs c.1 h
 part_told C class p (part_read n q objects ∷ rs) c h = by (class == n && same_part p q) refl h (part_told C class p rs c.1)
   where
-    by : (t : Bool) → (class == n && same_part p q) ≡ t → (t || part_was_read rs class p) ≡ true → (part_was_read rs class p ≡ true → (found : List KeyedRow) × ArePart C class p found) → (found : List KeyedRow) × ArePart C class p found
+    by : (t : Bool) → (class == n && same_part p q) ≡ t → (t || part_was_read rs class p) ≡ true → (part_was_read rs class p ≡ true → (found : List KeyedRow) × ArePart C class p found)
+        → (found : List KeyedRow) × ArePart C class p found
     by true e h rest =
         let both = and_parts (class == n) (same_part p q) e in
         (objects, subst (λ k. ArePart C k p objects) (sym ((Decides-eqb class n).0 both.0)) (subst (λ r. ArePart C n r objects) (sym ((part_decides p q).0 both.1)) c.0))
     by false e h rest = rest h
 
 -- it has the same objects wherever the reads hold
-part_again : (B C : Cells) (class : ℕ) (p : ClassPart) (hits : List KeyedRow) (reads : List Read) → ReadsHold B reads → ReadsHold C reads → ArePart C class p hits → part_was_read reads class p ≡ true → ArePart B class p hits
+part_again : (B C : Cells) (class : ℕ) (p : ClassPart) (hits : List KeyedRow) (reads : List Read) → ReadsHold B reads → ReadsHold C reads → ArePart C class p hits
+    → part_was_read reads class p ≡ true → ArePart B class p hits
 part_again B C class p hits [] b c are h = absurd (true≢false (sym h))
 part_again B C class p hits (cell_read q value ∷ rs) b c are h = part_again B C class p hits rs b.1 c.1 are h
 part_again B C class p hits (keys_read n keys ∷ rs) b c are h = part_again B C class p hits rs b.1 c.1 are h
@@ -86,7 +88,8 @@ part_again B C class p hits (part_read n q objects ∷ rs) b c are h = by (class
         subst (ArePart B class p) (one_part (here C c.0) are) (here B b.0)
     by false e h rest = rest h
 
-part_noted : (B C : Cells) (class : ℕ) (p : ClassPart) (hits : List KeyedRow) (reads : List Read) → Holds C reads → ArePart C class p hits → Holds B (noted reads (part_read class p hits)) → ArePart B class p hits
+part_noted : (B C : Cells) (class : ℕ) (p : ClassPart) (hits : List KeyedRow) (reads : List Read) → Holds C reads → ArePart C class p hits
+    → Holds B (noted reads (part_read class p hits)) → ArePart B class p hits
 part_noted B C class p hits reads c are b = by (part_was_read reads class p) refl b
   where
     by : (t : Bool) → part_was_read reads class p ≡ t → Holds B (if t then reads else reads ++ part_read class p hits ∷ []) → ArePart B class p hits

@@ -1,15 +1,18 @@
 -- Reads that are noted once, and what they show wherever they hold.
-use Rattle.std.proofs.Common.{◌≡◌, refl, sym, ap, ◌∙◌, subst, ℕ, ℤ, Bool, true, false, true≢false, ◌||◌, ◌==◌, List, [], ◌∷◌, ◌++◌, append-nil, length, drop, Option, Some, None, is_some, if◌then◌else◌, arith}
+use Rattle.std.proofs.Common.{◌≡◌, refl, sym, ap, ◌∙◌, subst, ℕ, ℤ, Bool, true, false, true≢false, ◌||◌, ◌==◌, List, [], ◌∷◌, ◌++◌, append-nil, length, drop, Option, Some, None}
+use Rattle.std.proofs.Common.{is_some, if◌then◌else◌, arith}
 use Rattle.std.specs.Prelude.{IfSome, option_map}
 use Rattle.std.specs.List.{list_any}
 use Rattle.std.proofs.lemmas.Bool.Decides.{Decides-eqb}
-use Rattle.hp_model.specs.Cells.{Cell, CellValue, Cells, Changes, object_cell, rule_cell, detector_cell, changed, over, same_cell, Read, cell_read, keys_read, greatest_read, count_read, objects_read, part_read, ReadHolds, ReadsHold, Holds, AreKeys, AreObjects}
+use Rattle.hp_model.specs.Cells.{Cell, CellValue, Cells, Changes, object_cell, rule_cell, detector_cell, changed, over, same_cell, Read, cell_read, keys_read, greatest_read}
+use Rattle.hp_model.specs.Cells.{count_read, objects_read, part_read, ReadHolds, ReadsHold, Holds, AreKeys, AreObjects}
 use Rattle.hp_model.proofs.BridgesCells.{exact_cell, Holds-push, Holds-last}
 use Rattle.hp_model.proofs.BridgesKeys.{one_list}
 use Rattle.hp_value.specs.Mapped.{keys_of}
 use Rattle.hp_store.specs.Changes.{Entries, changes}
 use Rattle.hp_view.specs.Keeping.{KeepsObject}
-use Rattle.hp_view.specs.Seeing.{Seeing, beneath, written, now_in, undone, reads_cell, class_was_read, row_was_read, cell_was_read, keys_were_read, was_read, noted, noted_unless, read_cell, OnlyReads, GoesOn, ReadsKeys, Shows, ShowsKeys}
+use Rattle.hp_view.specs.Seeing.{Seeing, beneath, written, now_in, undone, reads_cell, class_was_read, row_was_read, cell_was_read, keys_were_read, was_read, noted, noted_unless}
+use Rattle.hp_view.specs.Seeing.{read_cell, OnlyReads, GoesOn, ReadsKeys, Shows, ShowsKeys}
 use Rattle.hp_view.proofs.SameClass.{same_objects}
 
 -- ---- reads that are noted
@@ -58,14 +61,16 @@ row_again B C class key [] b c h = absurd (true≢false (sym h))
 row_again B C class key (cell_read q value ∷ rs) b c h = row_again B C class key rs b.1 c.1 h
 row_again B C class key (keys_read n keys ∷ rs) b c h = by (class == n) h (row_again B C class key rs b.1 c.1)
   where
-    by : (t : Bool) → (if t then false else class_was_read rs class) ≡ true → (class_was_read rs class ≡ true → B (object_cell class key) ≡ C (object_cell class key)) → B (object_cell class key) ≡ C (object_cell class key)
+    by : (t : Bool) → (if t then false else class_was_read rs class) ≡ true → (class_was_read rs class ≡ true → B (object_cell class key) ≡ C (object_cell class key))
+        → B (object_cell class key) ≡ C (object_cell class key)
     by true h rest = absurd (true≢false (sym h))
     by false h rest = rest h
 row_again B C class key (greatest_read n greatest ∷ rs) b c h = row_again B C class key rs b.1 c.1 h
 row_again B C class key (count_read n count ∷ rs) b c h = row_again B C class key rs b.1 c.1 h
 row_again B C class key (objects_read n objects ∷ rs) b c h = by (class == n) refl h (row_again B C class key rs b.1 c.1)
   where
-    by : (t : Bool) → (class == n) ≡ t → (if t then true else class_was_read rs class) ≡ true → (class_was_read rs class ≡ true → B (object_cell class key) ≡ C (object_cell class key)) → B (object_cell class key) ≡ C (object_cell class key)
+    by : (t : Bool) → (class == n) ≡ t → (if t then true else class_was_read rs class) ≡ true → (class_was_read rs class ≡ true → B (object_cell class key) ≡ C (object_cell class key))
+        → B (object_cell class key) ≡ C (object_cell class key)
     by true e h rest =
         let here : n ≡ class = sym ((Decides-eqb class n).0 e) in
         same_objects (subst (λ k. AreObjects B k objects) here b.0) (subst (λ k. AreObjects C k objects) here c.0) key
@@ -126,7 +131,8 @@ keys_noted B C class keys reads c are b = by (keys_were_read reads class) refl b
 pub shows_read : (v : Seeing) (cell : Cell) → Holds (beneath v) v.reads → Shows (record v { reads = read_cell v cell }) cell (now_in v cell)
 shows_read v cell held = record { everywhere = λ base here. by (written v cell) refl base here }
   where
-    by : (w : Option (Option CellValue)) → written v cell ≡ w → (base : Cells) → Holds base (noted_unless w v.reads (cell_read cell (beneath v cell))) → changed (base cell) (written v cell) ≡ changed (beneath v cell) (written v cell)
+    by : (w : Option (Option CellValue)) → written v cell ≡ w → (base : Cells) → Holds base (noted_unless w v.reads (cell_read cell (beneath v cell)))
+        → changed (base cell) (written v cell) ≡ changed (beneath v cell) (written v cell)
     by None e base here = ap (λ o. changed o (written v cell)) (cell_noted base (beneath v) cell v.reads held here)
     by (Some x) e base here = ap (changed (base cell)) e ∙ sym (ap (changed (beneath v cell)) e)
 
@@ -203,7 +209,8 @@ pub noted_first : {v old : Seeing} (cell : Cell) (reads : List Read) (value : Op
     → v ≡ old → Holds (beneath v) v.reads → is_some (written v cell) ≡ false → reads ≡ noted v.reads (cell_read cell value) → value ≡ beneath v cell → Noted v old cell reads
 noted_first {v} {old} cell reads value from held uncovered is what = record {
   held = subst (Holds (beneath v)) (sym all) (Holds-read v cell held);
-  shows = subst (λ rs. Shows (record v { reads = rs }) cell (now_in old cell)) (sym all) (subst (λ u. Shows (record v { reads = read_cell v cell }) cell (now_in u cell)) from (shows_read v cell held));
+  shows = subst (λ rs. Shows (record v { reads = rs }) cell (now_in old cell)) (sym all)
+      (subst (λ u. Shows (record v { reads = read_cell v cell }) cell (now_in u cell)) from (shows_read v cell held));
   only = only_more reads from (subst (λ rs. (more : List Read) × (rs ≡ v.reads ++ more)) (sym all) (read-more v cell));
 }
   where
@@ -261,7 +268,8 @@ keys_over_same base other layer class under keys here there are = record {
     by key (Some value) = refl
 
 -- keys that are told beneath are those of the view, where its writes leave the class's objects where they are
-pub keys_kept : {v old : Seeing} (class : ℕ) (recorded : List ℤ) → v ≡ old → AreKeys (beneath v) class recorded → ((key : ℤ) → KeepsObject (beneath v) v.writes class key) → AreKeys (now_in old) class recorded
+pub keys_kept : {v old : Seeing} (class : ℕ) (recorded : List ℤ) → v ≡ old → AreKeys (beneath v) class recorded → ((key : ℤ) → KeepsObject (beneath v) v.writes class key)
+    → AreKeys (now_in old) class recorded
 keys_kept {v} {old} class recorded from are keeps =
     subst (λ u. AreKeys (now_in u) class recorded) from (record { rise = are.rise; has = λ key. are.has key ∙ sym (keeps key) })
 

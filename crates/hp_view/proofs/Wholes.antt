@@ -40,7 +40,8 @@ pub one_whole : {base : Cells} {class : ℕ} {xs ys : List KeyedRow} → AreObje
 one_whole {base} {class} {xs} {ys} p q = same_rows base class xs ys (one_list p.keys q.keys) p.rows q.rows
 
 -- what is listed, compared with another list
-pub compared : {base : Cells} {class : ℕ} {recorded objects : List KeyedRow} (same : Bool) → AreObjects base class recorded → IsTrue same ↔ (recorded ≡ objects) → IsTrue same ↔ AreObjects base class objects
+pub compared : {base : Cells} {class : ℕ} {recorded objects : List KeyedRow} (same : Bool) → AreObjects base class recorded → IsTrue same ↔ (recorded ≡ objects)
+    → IsTrue same ↔ AreObjects base class objects
 compared {base} {class} {recorded} {objects} same are test = (λ t. subst (AreObjects base class) (test.0 t) are, λ others. test.1 (one_whole are others))
 
 -- ---- whether rows are those of their objects
@@ -106,7 +107,8 @@ same_over {old} {new} {class} only held told base here key =
     ap (λ o. changed o (written new (object_cell class key))) (same_objects (told base here) (told (beneath new) held) key) ∙ ap (λ cells. cells (object_cell class key)) (now_only only)
 
 -- a class that was read as a whole
-pub whole_still : {old new : Seeing} {class : ℕ} {under objects : List KeyedRow} → OnlyReads old new → Holds (beneath new) new.reads → ((base : Cells) → Holds base new.reads → AreObjects base class under)
+pub whole_still : {old new : Seeing} {class : ℕ} {under objects : List KeyedRow} → OnlyReads old new → Holds (beneath new) new.reads
+    → ((base : Cells) → Holds base new.reads → AreObjects base class under)
     → AreObjects (now_in old) class objects → ShowsObjects new class objects
 whole_still only held told are = record { everywhere = λ base here. objects_along (λ key. sym (same_over only held told base here key)) are }
 
@@ -131,10 +133,12 @@ read_by_rows {old} {mid} {new} {class} {keys} {objects} first shows held next ro
     same = one_list (subst (λ cells. AreKeys cells class keys) (now_only first) (shows.everywhere (beneath mid) held)) are.keys
 
     shown : All (λ (o : KeyedRow). Shows new (object_cell class o.key) (now_in mid (object_cell class o.key))) objects
-    shown = by_keys (λ key. Shows new (object_cell class key) (now_in mid (object_cell class key))) objects (subst (All (λ key. Shows new (object_cell class key) (now_in mid (object_cell class key)))) same rows)
+    shown = by_keys (λ key. Shows new (object_cell class key) (now_in mid (object_cell class key))) objects
+        (subst (All (λ key. Shows new (object_cell class key) (now_in mid (object_cell class key)))) same rows)
 
 -- what was shown of keys by reads before
-pub keys_shown_on : (mid : Seeing) {now new : Seeing} (class : ℕ) (keys : List ℤ) → OnlyReads now new → (shown : All (λ key. Shows now (object_cell class key) (now_in mid (object_cell class key))) keys)
+pub keys_shown_on : (mid : Seeing) {now new : Seeing} (class : ℕ) (keys : List ℤ) → OnlyReads now new
+    → (shown : All (λ key. Shows now (object_cell class key) (now_in mid (object_cell class key))) keys)
     → All (λ key. Shows new (object_cell class key) (now_in mid (object_cell class key))) keys
 keys_shown_on mid {now} {new} class keys on shown = λ i d below. record {
   everywhere = λ base here.
@@ -148,7 +152,8 @@ pub read_more : (first : Seeing) {now new : Seeing} (class : ℕ) (keys : List �
     → All (λ k. Shows new (object_cell class k) (now_in first (object_cell class k))) (take (i + 1) keys)
 read_more first {now} {new} class keys i key within is before only shown here =
     subst (All AtFirst) (sym (take_more keys i (pos 0) within ∙ ap (λ k. take i keys ++ k ∷ []) (sym is)))
-    (All-push AtFirst (take i keys) key (keys_shown_on first class (take i keys) only shown) (subst (λ cells. Shows new (object_cell class key) (cells (object_cell class key))) (now_only before) here))
+    (All-push AtFirst (take i keys) key (keys_shown_on first class (take i keys) only shown)
+    (subst (λ cells. Shows new (object_cell class key) (cells (object_cell class key))) (now_only before) here))
   where
     AtFirst : ℤ → Type 0
     AtFirst k = Shows new (object_cell class k) (now_in first (object_cell class k))

@@ -3,7 +3,8 @@ use Rattle.std.specs.Prelude.{◌≡◌, ℕ, ℤ, ◌≤◌, ◌==◌, length, 
 use Rattle.std.specs.List.{list_any}
 use Rattle.hp_model.specs.Values.{KeyedRow}
 use Rattle.hp_model.specs.ClassParts.{ClassPart}
-use Rattle.hp_model.specs.Cells.{Cell, object_cell, rule_cell, detector_cell, CellValue, Cells, Changes, over, same_cell, with_change, Read, cell_read, keys_read, greatest_read, count_read, objects_read, part_read, Holds, AreKeys, IsGreatestKey, IsCount, AreObjects, ArePart}
+use Rattle.hp_model.specs.Cells.{Cell, object_cell, rule_cell, detector_cell, CellValue, Cells, Changes, over, same_cell, with_change, Read, cell_read, keys_read, greatest_read}
+use Rattle.hp_model.specs.Cells.{count_read, objects_read, part_read, Holds, AreKeys, IsGreatestKey, IsCount, AreObjects, ArePart}
 use Rattle.hp_model.proofs.BridgesCells.{stacked}
 use Rattle.hp_store.specs.Changes.{Entries, changes}
 use Rattle.hp_store.specs.Stack.{Stack, cells_in}

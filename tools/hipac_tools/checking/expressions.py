@@ -151,7 +151,8 @@ def which_value(place: Place, name: str, scope: Scope) -> str:
         return f"`{name}` is a row, and a field of it is {place.dialect.field_of(name)}"
     known = list(scope.values)
     there = names_there("let", known) if known else "no `let` is known here"
-    return scope.not_yet.get(name) or field_meant(place, name, scope) or did_you_mean(name, known) or there
+    quoted = f'; a text is in quotes: `"{name}"`' if place.dialect.is_text else ""
+    return scope.not_yet.get(name) or field_meant(place, name, scope) or did_you_mean(name, known) or there + quoted
 
 
 def field_meant(place: Place, name: str, scope: Scope) -> str:

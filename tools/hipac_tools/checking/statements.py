@@ -5,7 +5,7 @@ from __future__ import annotations
 from dataclasses import replace
 from typing import Callable
 
-from ..language import MOST_LEVELS, RULE_OPERATIONS
+from ..language import MOST_LEVELS, OF_A_LET, RULE_OPERATIONS
 from ..values import kind_of
 from ..wording import listed
 from .expressions import new_row_at, read_aggregate, read_class, read_expression, read_predicate
@@ -116,7 +116,17 @@ def warn_of_kind(place: Place, field: str, kind: str, scope: Scope) -> None:
 def read_signal(parts: list[Place], scope: Scope, level: int) -> None:
     scope.gathered.signalled.add(name_at(parts[0], "a signal's name"))
     for argument in short_list_at(parts[1], "the arguments", "expressions", ARGUMENTS):
-        scope.gathered.go_on(lambda: read_expression(argument, scope))
+        within = replace(scope, not_yet={**scope.not_yet, **argument_names(argument)})
+        scope.gathered.go_on(lambda: read_expression(argument, within))
+
+
+def argument_names(argument: Place) -> dict[str, str]:
+    """The name before a `=`, where an argument of a signal is written as one with a name, and what is meant."""
+    node = argument.node
+    if not argument.dialect.is_text or first_word(node) != "=" or first_word(node.items[1]) not in OF_A_LET:
+        return {}
+    name = node.items[1].value[1]
+    return {name: "arguments have no names: a rule reads them by their order, as `event.arg(0)`"}
 
 
 def read_emit(parts: list[Place], scope: Scope, level: int) -> None:

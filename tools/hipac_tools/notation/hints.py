@@ -173,6 +173,8 @@ def at_word(a: Around) -> str:
         return "an action begins with `do`"
     if a.found == "key" and is_value:
         return "the key of the row i is `i.key`, that of the event's object `event.key`"
+    if a.found != NOW and a.last == "." and a.earlier.value == "event" and a.wants("`arg`"):
+        return "an argument of a signal is `event.arg(0)`, a field of the event's object `new.NAME` or `old.NAME`"
     if a.found == "key" and a.wanted == ("the name of a field",) and a.last == ".":
         return "the key of the event's object is `event.key`; a field of that name is in backquotes"
     if a.found == "not" and is_value:

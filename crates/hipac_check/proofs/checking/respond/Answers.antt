@@ -1,4 +1,4 @@
-use Rattle.std.proofs.Common.{◌≡◌, ◌∙◌, subst, List, ℕ}
+use Rattle.std.proofs.Common.{◌∙◌, subst, List, ℕ}
 use Rattle.std.specs.Io.KnownBytes.{Appends}
 use Rattle.hp_report.specs.Device.{Begins}
 use Rattle.hp_analysis.specs.Declarations.{declared}

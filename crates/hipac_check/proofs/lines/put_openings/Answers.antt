@@ -1,4 +1,4 @@
-use Rattle.std.proofs.Common.{rules, arith, ◌≡◌, ap, suc, ◌+◌, ◌∷◌, ◌++◌, drop, map, string_bytes}
+use Rattle.std.proofs.Common.{arith, ◌≡◌, ap, suc, ◌+◌, ◌∷◌, ◌++◌, drop, map, string_bytes}
 use Rattle.std.proofs.lemmas.Grind.{common_steps}
 use Rattle.hp_rule.specs.Statements.{rule}
 use Rattle.hp_analysis.specs.Checking.{opening_lines}

@@ -5,7 +5,8 @@ use Rattle.hp_attempt.proofs.front.settle_first.Goals as goal
 
 pub returns-in-Rejected-clause-left : goal.returns-in-Rejected-clause-left
 returns-in-Rejected-clause-left c =
-    leaves_first (task c.args.task.now) c.args.attempts.now.items c.in-Some-Some.attempt c.in-Some-Some.field-0.now c.in_ok-settle.field-0 (sym c.in-Some-Some.field-0-is ∙ c.in-Some-Some.ensures.item.1) c.in-Rejected.is
+    leaves_first (task c.args.task.now) c.args.attempts.now.items c.in-Some-Some.attempt c.in-Some-Some.field-0.now c.in_ok-settle.field-0
+    (sym c.in-Some-Some.field-0-is ∙ c.in-Some-Some.ensures.item.1) c.in-Rejected.is
     c.in_ok-settle.ensures.rejected c.in_ok-settle.ensures.accepted
 
 pub returns-clause-taken : goal.returns-clause-taken

@@ -18,14 +18,16 @@ loop-task-init c = record {
 
 pub returns-in_default-clause-longest : goal.returns-in_default-clause-longest
 returns-in_default-clause-longest c =
-    let next = ap (λ n. drop n (map task c.args.tasks.now)) c.loop-task.invariant.count ∙ tasks_left task c.args.tasks.now c.loop-task.task-index c.task-item.result c.loop-task-test.true c.task-item.is in
+    let next = ap (λ n. drop n (map task c.args.tasks.now)) c.loop-task.invariant.count ∙ tasks_left task c.args.tasks.now c.loop-task.task-index
+    c.task-item.result c.loop-task-test.true c.task-item.is in
     (ended c.args.stop_at_veto (map task c.args.tasks.now) c.args.attempts.items c.loop-task.outcomes.items c.in_ok-outcome.field-0 (task c.task-item.result)
     (drop (c.loop-task.task-index + 1) (map task c.args.tasks.now)) c.loop-task.attempts.items c.settle_first.new.attempts.items
     c.loop-task.invariant.so_far c.loop-task.invariant.taken next c.in_ok-outcome.ensures.left c.in_default.is).longest
 
 pub returns-in_default-clause-for_states : goal.returns-in_default-clause-for_states
 returns-in_default-clause-for_states c =
-    let next = ap (λ n. drop n (map task c.args.tasks.now)) c.loop-task.invariant.count ∙ tasks_left task c.args.tasks.now c.loop-task.task-index c.task-item.result c.loop-task-test.true c.task-item.is in
+    let next = ap (λ n. drop n (map task c.args.tasks.now)) c.loop-task.invariant.count ∙ tasks_left task c.args.tasks.now c.loop-task.task-index
+    c.task-item.result c.loop-task-test.true c.task-item.is in
     (ended c.args.stop_at_veto (map task c.args.tasks.now) c.args.attempts.items c.loop-task.outcomes.items c.in_ok-outcome.field-0 (task c.task-item.result)
     (drop (c.loop-task.task-index + 1) (map task c.args.tasks.now)) c.loop-task.attempts.items c.settle_first.new.attempts.items
     c.loop-task.invariant.so_far c.loop-task.invariant.taken next c.in_ok-outcome.ensures.left c.in_default.is).front
@@ -35,26 +37,35 @@ returns-in_default-clause-front c = front_ordered (returns-in_default-clause-for
 
 pub returns-then-stops-clause-left : goal.returns-then-stops-clause-left
 returns-then-stops-clause-left c =
-    let next = ap (λ n. drop n (map task c.args.tasks.now)) c.loop-task.invariant.count ∙ tasks_left task c.args.tasks.now c.loop-task.task-index c.task-item.result c.loop-task-test.true c.task-item.is in
-    let s = step c.args.stop_at_veto (map task c.args.tasks.now) c.args.attempts.items c.loop-task.outcomes.items c.push.new.self.items c.in_ok-outcome.field-0 c.in-Some.outcome (task c.task-item.result)
+    let next = ap (λ n. drop n (map task c.args.tasks.now)) c.loop-task.invariant.count ∙ tasks_left task c.args.tasks.now c.loop-task.task-index
+    c.task-item.result c.loop-task-test.true c.task-item.is in
+    let s = step c.args.stop_at_veto (map task c.args.tasks.now) c.args.attempts.items c.loop-task.outcomes.items c.push.new.self.items c.in_ok-outcome.field-0
+    c.in-Some.outcome (task c.task-item.result)
     (drop (c.loop-task.task-index + 1) (map task c.args.tasks.now)) c.loop-task.attempts.items c.settle_first.new.attempts.items
-    c.loop-task.invariant.so_far c.loop-task.invariant.taken c.loop-task.invariant.are next c.loop-task.invariant.left c.in_ok-outcome.ensures.taken c.in-Some.is c.settle_first.ensures.goes_on c.in_ok-push.ensures.items in
+    c.loop-task.invariant.so_far c.loop-task.invariant.taken c.loop-task.invariant.are next c.loop-task.invariant.left c.in_ok-outcome.ensures.taken
+    c.in-Some.is c.settle_first.ensures.goes_on c.in_ok-push.ensures.items in
     s.left
 
 pub returns-then-stops-clause-longest : goal.returns-then-stops-clause-longest
 returns-then-stops-clause-longest c =
-    let next = ap (λ n. drop n (map task c.args.tasks.now)) c.loop-task.invariant.count ∙ tasks_left task c.args.tasks.now c.loop-task.task-index c.task-item.result c.loop-task-test.true c.task-item.is in
-    let s = step c.args.stop_at_veto (map task c.args.tasks.now) c.args.attempts.items c.loop-task.outcomes.items c.push.new.self.items c.in_ok-outcome.field-0 c.in-Some.outcome (task c.task-item.result)
+    let next = ap (λ n. drop n (map task c.args.tasks.now)) c.loop-task.invariant.count ∙ tasks_left task c.args.tasks.now c.loop-task.task-index
+    c.task-item.result c.loop-task-test.true c.task-item.is in
+    let s = step c.args.stop_at_veto (map task c.args.tasks.now) c.args.attempts.items c.loop-task.outcomes.items c.push.new.self.items c.in_ok-outcome.field-0
+    c.in-Some.outcome (task c.task-item.result)
     (drop (c.loop-task.task-index + 1) (map task c.args.tasks.now)) c.loop-task.attempts.items c.settle_first.new.attempts.items
-    c.loop-task.invariant.so_far c.loop-task.invariant.taken c.loop-task.invariant.are next c.loop-task.invariant.left c.in_ok-outcome.ensures.taken c.in-Some.is c.settle_first.ensures.goes_on c.in_ok-push.ensures.items in
+    c.loop-task.invariant.so_far c.loop-task.invariant.taken c.loop-task.invariant.are next c.loop-task.invariant.left c.in_ok-outcome.ensures.taken
+    c.in-Some.is c.settle_first.ensures.goes_on c.in_ok-push.ensures.items in
     s.longest (halting (goes_on c.args.stop_at_veto (veto_in c.in-Some.outcome)) c.stops_at-stops.result c.stops_at-stops.ensures c.if-stops.true) _ _
 
 pub returns-then-stops-clause-for_states : goal.returns-then-stops-clause-for_states
 returns-then-stops-clause-for_states c =
-    let next = ap (λ n. drop n (map task c.args.tasks.now)) c.loop-task.invariant.count ∙ tasks_left task c.args.tasks.now c.loop-task.task-index c.task-item.result c.loop-task-test.true c.task-item.is in
-    let s = step c.args.stop_at_veto (map task c.args.tasks.now) c.args.attempts.items c.loop-task.outcomes.items c.push.new.self.items c.in_ok-outcome.field-0 c.in-Some.outcome (task c.task-item.result)
+    let next = ap (λ n. drop n (map task c.args.tasks.now)) c.loop-task.invariant.count ∙ tasks_left task c.args.tasks.now c.loop-task.task-index
+    c.task-item.result c.loop-task-test.true c.task-item.is in
+    let s = step c.args.stop_at_veto (map task c.args.tasks.now) c.args.attempts.items c.loop-task.outcomes.items c.push.new.self.items c.in_ok-outcome.field-0
+    c.in-Some.outcome (task c.task-item.result)
     (drop (c.loop-task.task-index + 1) (map task c.args.tasks.now)) c.loop-task.attempts.items c.settle_first.new.attempts.items
-    c.loop-task.invariant.so_far c.loop-task.invariant.taken c.loop-task.invariant.are next c.loop-task.invariant.left c.in_ok-outcome.ensures.taken c.in-Some.is c.settle_first.ensures.goes_on c.in_ok-push.ensures.items in
+    c.loop-task.invariant.so_far c.loop-task.invariant.taken c.loop-task.invariant.are next c.loop-task.invariant.left c.in_ok-outcome.ensures.taken
+    c.in-Some.is c.settle_first.ensures.goes_on c.in_ok-push.ensures.items in
     s.last (halting (goes_on c.args.stop_at_veto (veto_in c.in-Some.outcome)) c.stops_at-stops.result c.stops_at-stops.ensures c.if-stops.true)
 
 pub returns-then-stops-clause-front : goal.returns-then-stops-clause-front
@@ -62,10 +73,13 @@ returns-then-stops-clause-front c = front_ordered (returns-then-stops-clause-for
 
 pub loop-task-preserved : goal.loop-task-preserved
 loop-task-preserved c =
-    let next = ap (λ n. drop n (map task c.args.tasks.now)) c.loop-task.invariant.count ∙ tasks_left task c.args.tasks.now c.loop-task.task-index c.task-item.result c.loop-task-test.true c.task-item.is in
-    let s = step c.args.stop_at_veto (map task c.args.tasks.now) c.args.attempts.items c.loop-task.outcomes.items c.push.new.self.items c.in_ok-outcome.field-0 c.in-Some.outcome (task c.task-item.result)
+    let next = ap (λ n. drop n (map task c.args.tasks.now)) c.loop-task.invariant.count ∙ tasks_left task c.args.tasks.now c.loop-task.task-index
+    c.task-item.result c.loop-task-test.true c.task-item.is in
+    let s = step c.args.stop_at_veto (map task c.args.tasks.now) c.args.attempts.items c.loop-task.outcomes.items c.push.new.self.items c.in_ok-outcome.field-0
+    c.in-Some.outcome (task c.task-item.result)
     (drop (c.loop-task.task-index + 1) (map task c.args.tasks.now)) c.loop-task.attempts.items c.settle_first.new.attempts.items
-    c.loop-task.invariant.so_far c.loop-task.invariant.taken c.loop-task.invariant.are next c.loop-task.invariant.left c.in_ok-outcome.ensures.taken c.in-Some.is c.settle_first.ensures.goes_on c.in_ok-push.ensures.items in
+    c.loop-task.invariant.so_far c.loop-task.invariant.taken c.loop-task.invariant.are next c.loop-task.invariant.left c.in_ok-outcome.ensures.taken
+    c.in-Some.is c.settle_first.ensures.goes_on c.in_ok-push.ensures.items in
     record {
       count = ap length c.in_ok-push.ensures.items ∙ length-append c.loop-task.outcomes.items (c.in-Some.outcome ∷ []) ∙ ap (λ n. n + 1) c.loop-task.invariant.count;
       left = s.left;
@@ -83,25 +97,32 @@ returns-clause-front c = front_ordered (returns-clause-for_states c)
 
 pub returns-in_default-clause-taken : goal.returns-in_default-clause-taken
 returns-in_default-clause-taken c =
-    let next = ap (λ n. drop n (map task c.args.tasks.now)) c.loop-task.invariant.count ∙ tasks_left task c.args.tasks.now c.loop-task.task-index c.task-item.result c.loop-task-test.true c.task-item.is in
+    let next = ap (λ n. drop n (map task c.args.tasks.now)) c.loop-task.invariant.count ∙ tasks_left task c.args.tasks.now c.loop-task.task-index
+    c.task-item.result c.loop-task-test.true c.task-item.is in
     (ended c.args.stop_at_veto (map task c.args.tasks.now) c.args.attempts.items c.loop-task.outcomes.items c.in_ok-outcome.field-0 (task c.task-item.result)
     (drop (c.loop-task.task-index + 1) (map task c.args.tasks.now)) c.loop-task.attempts.items c.settle_first.new.attempts.items
     c.loop-task.invariant.so_far c.loop-task.invariant.taken next c.in_ok-outcome.ensures.left c.in_default.is).taken
 
 pub returns-then-stops-clause-taken : goal.returns-then-stops-clause-taken
 returns-then-stops-clause-taken c =
-    let next = ap (λ n. drop n (map task c.args.tasks.now)) c.loop-task.invariant.count ∙ tasks_left task c.args.tasks.now c.loop-task.task-index c.task-item.result c.loop-task-test.true c.task-item.is in
-    let s = step c.args.stop_at_veto (map task c.args.tasks.now) c.args.attempts.items c.loop-task.outcomes.items c.push.new.self.items c.in_ok-outcome.field-0 c.in-Some.outcome (task c.task-item.result)
+    let next = ap (λ n. drop n (map task c.args.tasks.now)) c.loop-task.invariant.count ∙ tasks_left task c.args.tasks.now c.loop-task.task-index
+    c.task-item.result c.loop-task-test.true c.task-item.is in
+    let s = step c.args.stop_at_veto (map task c.args.tasks.now) c.args.attempts.items c.loop-task.outcomes.items c.push.new.self.items c.in_ok-outcome.field-0
+    c.in-Some.outcome (task c.task-item.result)
     (drop (c.loop-task.task-index + 1) (map task c.args.tasks.now)) c.loop-task.attempts.items c.settle_first.new.attempts.items
-    c.loop-task.invariant.so_far c.loop-task.invariant.taken c.loop-task.invariant.are next c.loop-task.invariant.left c.in_ok-outcome.ensures.taken c.in-Some.is c.settle_first.ensures.goes_on c.in_ok-push.ensures.items in
+    c.loop-task.invariant.so_far c.loop-task.invariant.taken c.loop-task.invariant.are next c.loop-task.invariant.left c.in_ok-outcome.ensures.taken
+    c.in-Some.is c.settle_first.ensures.goes_on c.in_ok-push.ensures.items in
     s.taken
 
 pub returns-then-stops-clause-outcomes : goal.returns-then-stops-clause-outcomes
 returns-then-stops-clause-outcomes c =
-    let next = ap (λ n. drop n (map task c.args.tasks.now)) c.loop-task.invariant.count ∙ tasks_left task c.args.tasks.now c.loop-task.task-index c.task-item.result c.loop-task-test.true c.task-item.is in
-    let s = step c.args.stop_at_veto (map task c.args.tasks.now) c.args.attempts.items c.loop-task.outcomes.items c.push.new.self.items c.in_ok-outcome.field-0 c.in-Some.outcome (task c.task-item.result)
+    let next = ap (λ n. drop n (map task c.args.tasks.now)) c.loop-task.invariant.count ∙ tasks_left task c.args.tasks.now c.loop-task.task-index
+    c.task-item.result c.loop-task-test.true c.task-item.is in
+    let s = step c.args.stop_at_veto (map task c.args.tasks.now) c.args.attempts.items c.loop-task.outcomes.items c.push.new.self.items c.in_ok-outcome.field-0
+    c.in-Some.outcome (task c.task-item.result)
     (drop (c.loop-task.task-index + 1) (map task c.args.tasks.now)) c.loop-task.attempts.items c.settle_first.new.attempts.items
-    c.loop-task.invariant.so_far c.loop-task.invariant.taken c.loop-task.invariant.are next c.loop-task.invariant.left c.in_ok-outcome.ensures.taken c.in-Some.is c.settle_first.ensures.goes_on c.in_ok-push.ensures.items in
+    c.loop-task.invariant.so_far c.loop-task.invariant.taken c.loop-task.invariant.are next c.loop-task.invariant.left c.in_ok-outcome.ensures.taken
+    c.in-Some.is c.settle_first.ensures.goes_on c.in_ok-push.ensures.items in
     s.are
 
 pub returns-in_err-outcome-clause-err : goal.returns-in_err-outcome-clause-err

@@ -19,7 +19,8 @@ returns-in-Cell-clause-again c =
 
 pub returns-in-Keys-clause-again : goal.returns-in-Keys-clause-again
 returns-in-Keys-clause-again c =
-    where_ok c.read_class_again.result (λ again. subst (λ s. IsReadAgain c.args.view.now c.read_class_again.new.view (read (s, c.args.found.now))) (sym c.in-Keys.is) again) c.read_class_again.ensures.again
+    where_ok c.read_class_again.result (λ again. subst (λ s. IsReadAgain c.args.view.now c.read_class_again.new.view (read (s, c.args.found.now))) (sym c.in-Keys.is) again)
+    c.read_class_again.ensures.again
 
 pub returns-in-Greatest-clause-again : goal.returns-in-Greatest-clause-again
 returns-in-Greatest-clause-again c =
@@ -39,7 +40,8 @@ returns-in-Count-clause-again c =
 
 pub returns-in-Part-clause-again : goal.returns-in-Part-clause-again
 returns-in-Part-clause-again c =
-    where_ok c.read_part_again.result (λ again. subst (λ s. IsReadAgain c.args.view.now c.read_part_again.new.view (read (s, c.args.found.now))) (sym c.in-Part.is) again) c.read_part_again.ensures.again
+    where_ok c.read_part_again.result (λ again. subst (λ s. IsReadAgain c.args.view.now c.read_part_again.new.view (read (s, c.args.found.now))) (sym c.in-Part.is) again)
+    c.read_part_again.ensures.again
 
 pub returns-in-Cell-clause-reads : goal.returns-in-Cell-clause-reads
 returns-in-Cell-clause-reads c =
@@ -47,7 +49,8 @@ returns-in-Cell-clause-reads c =
     let q = cell c.in-Cell.cell in
     let r = read (OfCell c.in-Cell.cell, c.args.found.now) in
     subst (λ s. AddsReads (IsFor w (read (s, c.args.found.now))) c.args.view.now.reads c.read.new.self.reads) (sym c.in-Cell.is)
-    (either_way c.read.result (adds_cell (IsFor w r) q (λ e. (refl, e))) (λ (same : c.read.new.self ≡ c.args.view.now). adds_none (IsFor w r) (ap (λ (v : Seeing). v.reads) same)) c.read.ensures.reads c.read.ensures.err)
+    (either_way c.read.result (adds_cell (IsFor w r) q (λ e. (refl, e))) (λ (same : c.read.new.self ≡ c.args.view.now). adds_none (IsFor w r) (ap (λ (v : Seeing). v.reads) same))
+    c.read.ensures.reads c.read.ensures.err)
 
 pub returns-in-Keys-clause-reads : goal.returns-in-Keys-clause-reads
 returns-in-Keys-clause-reads c =

@@ -59,32 +59,37 @@ returns-in-Keys-clause-reads c =
     let w = written c.args.view.now in
     let r = keys_read c.args.class c.in-Keys.field-0.items in
     subst (λ f. AddsReads (IsFor w (class_read c.args.class f)) c.args.view.now.reads c.read_keys.new.self.reads) (sym c.in-Keys.is)
-    (either_way c.read_keys.result (adds_keys (IsFor w r) (λ keys. refl)) (λ (same : c.read_keys.new.self ≡ c.args.view.now). adds_none (IsFor w r) (ap (λ (v : Seeing). v.reads) same)) c.read_keys.ensures.reads c.read_keys.ensures.err)
+    (either_way c.read_keys.result (adds_keys (IsFor w r) (λ keys. refl)) (λ (same : c.read_keys.new.self ≡ c.args.view.now). adds_none (IsFor w r) (ap (λ (v : Seeing). v.reads) same))
+    c.read_keys.ensures.reads c.read_keys.ensures.err)
 
 pub returns-in-Value-clause-reads : goal.returns-in-Value-clause-reads
 returns-in-Value-clause-reads c =
     let w = written c.args.view.now in
     let r = keys_read c.args.class [] in
     subst (λ f. AddsReads (IsFor w (class_read c.args.class f)) c.args.view.now.reads c.read_keys-in-Value.new.self.reads) (sym c.in-Value.is)
-    (either_way c.read_keys-in-Value.result (adds_keys (IsFor w r) (λ keys. refl)) (λ (same : c.read_keys-in-Value.new.self ≡ c.args.view.now). adds_none (IsFor w r) (ap (λ (v : Seeing). v.reads) same)) c.read_keys-in-Value.ensures.reads c.read_keys-in-Value.ensures.err)
+    (either_way c.read_keys-in-Value.result (adds_keys (IsFor w r) (λ keys. refl)) (λ (same : c.read_keys-in-Value.new.self ≡ c.args.view.now). adds_none
+    (IsFor w r) (ap (λ (v : Seeing). v.reads) same)) c.read_keys-in-Value.ensures.reads c.read_keys-in-Value.ensures.err)
 
 pub returns-in-Greatest-clause-reads : goal.returns-in-Greatest-clause-reads
 returns-in-Greatest-clause-reads c =
     let w = written c.args.view.now in
     let r = keys_read c.args.class [] in
     subst (λ f. AddsReads (IsFor w (class_read c.args.class f)) c.args.view.now.reads c.read_keys-in-Greatest.new.self.reads) (sym c.in-Greatest.is)
-    (either_way c.read_keys-in-Greatest.result (adds_keys (IsFor w r) (λ keys. refl)) (λ (same : c.read_keys-in-Greatest.new.self ≡ c.args.view.now). adds_none (IsFor w r) (ap (λ (v : Seeing). v.reads) same)) c.read_keys-in-Greatest.ensures.reads c.read_keys-in-Greatest.ensures.err)
+    (either_way c.read_keys-in-Greatest.result (adds_keys (IsFor w r) (λ keys. refl)) (λ (same : c.read_keys-in-Greatest.new.self ≡ c.args.view.now).
+    adds_none (IsFor w r) (ap (λ (v : Seeing). v.reads) same)) c.read_keys-in-Greatest.ensures.reads c.read_keys-in-Greatest.ensures.err)
 
 pub returns-in-Count-clause-reads : goal.returns-in-Count-clause-reads
 returns-in-Count-clause-reads c =
     let w = written c.args.view.now in
     let r = keys_read c.args.class [] in
     subst (λ f. AddsReads (IsFor w (class_read c.args.class f)) c.args.view.now.reads c.read_keys-in-Count.new.self.reads) (sym c.in-Count.is)
-    (either_way c.read_keys-in-Count.result (adds_keys (IsFor w r) (λ keys. refl)) (λ (same : c.read_keys-in-Count.new.self ≡ c.args.view.now). adds_none (IsFor w r) (ap (λ (v : Seeing). v.reads) same)) c.read_keys-in-Count.ensures.reads c.read_keys-in-Count.ensures.err)
+    (either_way c.read_keys-in-Count.result (adds_keys (IsFor w r) (λ keys. refl)) (λ (same : c.read_keys-in-Count.new.self ≡ c.args.view.now). adds_none
+    (IsFor w r) (ap (λ (v : Seeing). v.reads) same)) c.read_keys-in-Count.ensures.reads c.read_keys-in-Count.ensures.err)
 
 pub returns-in-Part-clause-reads : goal.returns-in-Part-clause-reads
 returns-in-Part-clause-reads c =
     let w = written c.args.view.now in
     let r = keys_read c.args.class [] in
     subst (λ f. AddsReads (IsFor w (class_read c.args.class f)) c.args.view.now.reads c.read_keys-in-Part.new.self.reads) (sym c.in-Part.is)
-    (either_way c.read_keys-in-Part.result (adds_keys (IsFor w r) (λ keys. refl)) (λ (same : c.read_keys-in-Part.new.self ≡ c.args.view.now). adds_none (IsFor w r) (ap (λ (v : Seeing). v.reads) same)) c.read_keys-in-Part.ensures.reads c.read_keys-in-Part.ensures.err)
+    (either_way c.read_keys-in-Part.result (adds_keys (IsFor w r) (λ keys. refl)) (λ (same : c.read_keys-in-Part.new.self ≡ c.args.view.now). adds_none
+    (IsFor w r) (ap (λ (v : Seeing). v.reads) same)) c.read_keys-in-Part.ensures.reads c.read_keys-in-Part.ensures.err)

@@ -28,9 +28,11 @@ returns-in_default-made-clause-notified c =
     let is : status_of c.in_ok-status.status ≡ enabled = c.is_enabled.ensures.0 (search rules) in
     let there : slice_get (library c.args.lib.now).rules c.args.number ≡ Some (rule_of c.in-Some.rule.now) = search rules in
     let at = (found_at (library c.args.lib.now).rules c.args.number (rule_of c.in-Some.rule.now) no_rule there).1 in
-    let none : None ≡ option_map (condition_task c.args.number (rule_at (library c.args.lib.now) c.args.number).event_coupling c.args.notice.now.time c.args.notice.now.depth) (option_map (λ o. occurrence_of o.value) c.in_ok-made.made) = search rules in
+    let none : None ≡ option_map (condition_task c.args.number (rule_at (library c.args.lib.now) c.args.number).event_coupling c.args.notice.now.time c.args.notice.now.depth)
+    (option_map (λ o. occurrence_of o.value) c.in_ok-made.made) = search rules in
     tells_enabled (library c.args.lib.now) c.args.notice.now.time (primitive c.args.notice.now.prim.now) c.args.number c.args.view.now c.find_status.new.view (status_of c.in_ok-status.status)
-    c.in_ok-status.ensures.only c.in_ok-status.ensures.shows c.notify_enabled.new.view c.args.notice.now.depth (option_map (λ o. occurrence_of o.value) c.in_ok-made.made) None c.in_ok-made.next is none
+    c.in_ok-status.ensures.only c.in_ok-status.ensures.shows c.notify_enabled.new.view c.args.notice.now.depth (option_map (λ o. occurrence_of o.value) c.in_ok-made.made)
+    None c.in_ok-made.next is none
     (c.in_ok-made.ensures.notified (library c.args.lib.now) at)
 
 pub returns-clause-notified : goal.returns-clause-notified
@@ -39,12 +41,14 @@ returns-clause-notified c =
     let there : slice_get (library c.args.lib.now).rules c.args.number ≡ Some (rule_of c.in-Some.rule.now) = search rules in
     let at = (found_at (library c.args.lib.now).rules c.args.number (rule_of c.in-Some.rule.now) no_rule there).1 in
     let o = occurrence_of c.in-Some-made.occurrence.value in
-    let made : Some (task_of c.new_task-task.result) ≡ option_map (condition_task c.args.number (rule_at (library c.args.lib.now) c.args.number).event_coupling c.args.notice.now.time c.args.notice.now.depth) (Some (occurrence_of c.in-Some-made.occurrence.value)) =
+    let made : Some (task_of c.new_task-task.result) ≡ option_map (condition_task c.args.number (rule_at (library c.args.lib.now) c.args.number).event_coupling
+    c.args.notice.now.time c.args.notice.now.depth) (Some (occurrence_of c.in-Some-made.occurrence.value)) =
     ap Some (c.new_task-task.ensures ∙ ap (λ (r : Rule). condition_task c.args.number r.event_coupling c.args.notice.now.time c.args.notice.now.depth o) (sym at)) in
     let occurs : option_map (λ o. occurrence_of o.value) c.in_ok-made.made ≡ Some (occurrence_of c.in-Some-made.occurrence.value) = search rules in
     tells_enabled (library c.args.lib.now) c.args.notice.now.time (primitive c.args.notice.now.prim.now) c.args.number c.args.view.now c.find_status.new.view (status_of c.in_ok-status.status)
     c.in_ok-status.ensures.only c.in_ok-status.ensures.shows c.notify_enabled.new.view c.args.notice.now.depth (Some o) (Some (task_of c.new_task-task.result)) c.in_ok-made.next is made
-    (subst (λ x. NotifiedEnabled (library c.args.lib.now) (primitive c.args.notice.now.prim.now) c.args.number c.find_status.new.view c.notify_enabled.new.view x c.in_ok-made.next) occurs (c.in_ok-made.ensures.notified (library c.args.lib.now) at))
+    (subst (λ x. NotifiedEnabled (library c.args.lib.now) (primitive c.args.notice.now.prim.now) c.args.number c.find_status.new.view c.notify_enabled.new.view x c.in_ok-made.next)
+    occurs (c.in_ok-made.ensures.notified (library c.args.lib.now) at))
 
 pub returns-then-not-is_enabled-clause-reads : goal.returns-then-not-is_enabled-clause-reads
 returns-then-not-is_enabled-clause-reads c = adds_status c.args.number c.in_ok-status.ensures.reads

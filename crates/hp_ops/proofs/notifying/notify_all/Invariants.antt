@@ -18,7 +18,8 @@ abbrev pub invariant-loop-number : goal.invariant-loop-number
 invariant-loop-number l =
     record {
       all : filter (is_mentioned (library l.lib).rules (primitive l.prim)) l.number-items ≡ mentioning (library l.lib) (primitive l.prim);
-      heard : HaveHeard (library l.lib) l.time (primitive l.prim) (mentioned_among (library l.lib) (primitive l.prim) l.number-items l.number-index) l.fn.view l.view (changes (entries l.steps)) (map task_of l.tasks.items);
+      heard : HaveHeard (library l.lib) l.time (primitive l.prim) (mentioned_among (library l.lib) (primitive l.prim) l.number-items l.number-index)
+          l.fn.view l.view (changes (entries l.steps)) (map task_of l.tasks.items);
       shared : Shares (primitive l.prim) (option_map (λ o. occurrence_of o.value) l.shared);
       depth : AreAt l.depth (map task_of l.tasks.items);
       reads : AddsReads (IsReadOfMentioned (library l.lib) (primitive l.prim)) l.fn.view.reads l.view.reads;

@@ -19,5 +19,7 @@ pub returns-clause-notified : goal.returns-clause-notified
 returns-clause-notified c = λ lib at.
     let impure : is_pure (event_of c.args.rule.now.event.value) ≡ false = search rules in
     let event : c.deref-2.result.now ≡ c.args.rule.now.event.value = search rules in
-    hears_stepped lib (primitive c.args.prim.now) c.args.number (rule_of c.args.rule.now) at c.args.view.now c.step_detector.new.view (option_map (λ a. occurrence_of a.value) c.in_ok-occurrence-2.occurrence) c.in_ok-occurrence-2.next impure c.in_ok-occurrence-2.ensures.only
-    (subst (λ e. StepsOn (event_of e) (primitive c.args.prim.now) c.args.number c.step_detector.new.view (option_map (λ a. occurrence_of a.value) c.in_ok-occurrence-2.occurrence) c.in_ok-occurrence-2.next) event c.in_ok-occurrence-2.ensures.steps)
+    hears_stepped lib (primitive c.args.prim.now) c.args.number (rule_of c.args.rule.now) at c.args.view.now c.step_detector.new.view
+    (option_map (λ a. occurrence_of a.value) c.in_ok-occurrence-2.occurrence) c.in_ok-occurrence-2.next impure c.in_ok-occurrence-2.ensures.only
+    (subst (λ e. StepsOn (event_of e) (primitive c.args.prim.now) c.args.number c.step_detector.new.view (option_map (λ a. occurrence_of a.value) c.in_ok-occurrence-2.occurrence)
+    c.in_ok-occurrence-2.next) event c.in_ok-occurrence-2.ensures.steps)

@@ -23,7 +23,8 @@ returns-clause-operation c = λ lib.
     let apart : is_some c.in_ok-find_object.field-0 ≡ false = search rules in
     let same : c.in_ok-written.written ≡ c.args.new = search rules in
     let writes : Writes c.find_object.new.view c.put.new.self (object_cell c.args.class (to_z w64 (of_z w64 c.args.key))) (Some (row_value c.in_ok-written.written)) = c.in_ok-put.ensures.ok in
-    subst (λ k. FaithfulOperation lib (create_object c.args.class c.args.key c.args.new) c.put.new.self.reads (written c.args.view.now) (written c.put.new.self) (Ok (created c.args.class k c.args.new))) (sym back)
+    subst (λ k. FaithfulOperation lib (create_object c.args.class c.args.key c.args.new) c.put.new.self.reads (written c.args.view.now) (written c.put.new.self)
+    (Ok (created c.args.class k c.args.new))) (sym back)
     (create_made c.args.view.now c.find_object.new.view c.put.new.self c.args.class c.args.key c.args.new c.in_ok-find_object.field-0 apart c.in_ok-find_object.ensures.only
     (subst (λ k. ObjectFound c.args.class k c.find_object.new.view c.in_ok-find_object.field-0) back c.in_ok-find_object.ensures.finds)
     (subst (λ k. Writes c.find_object.new.view c.put.new.self (object_cell c.args.class k) (Some (row_value c.args.new))) back

@@ -27,7 +27,8 @@ returns-clause-operation c = λ lib.
     let changed : c.in_ok-new.new ≡ changed_row given c.in-Some.old = c.in_ok-new.ensures in
     let same : c.in_ok-written.written ≡ c.in_ok-new.new = search rules in
     let writes : Writes c.find_object.new.view c.put.new.self (object_cell c.args.class (to_z w64 (of_z w64 c.args.key))) (Some (row_value c.in_ok-written.written)) = c.in_ok-put.ensures.ok in
-    subst (λ k. FaithfulOperation lib (update_object c.args.class c.args.key given) c.put.new.self.reads (written c.args.view.now) (written c.put.new.self) (Ok (updated c.args.class k c.in-Some.old c.in_ok-new.new))) (sym back)
+    subst (λ k. FaithfulOperation lib (update_object c.args.class c.args.key given) c.put.new.self.reads (written c.args.view.now) (written c.put.new.self)
+    (Ok (updated c.args.class k c.in-Some.old c.in_ok-new.new))) (sym back)
     (update_made c.args.view.now c.find_object.new.view c.put.new.self c.args.class c.args.key given c.in-Some.old c.in_ok-new.new c.in_ok-old.field-0 there changed c.in_ok-old.ensures.only
     (subst (λ k. ObjectFound c.args.class k c.find_object.new.view c.in_ok-old.field-0) back c.in_ok-old.ensures.finds)
     (subst (λ k. Writes c.find_object.new.view c.put.new.self (object_cell c.args.class k) (Some (row_value c.in_ok-new.new))) back

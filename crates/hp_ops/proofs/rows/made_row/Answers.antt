@@ -21,8 +21,10 @@ loop-f-preserved c =
     record {
       so_far =
           ap (λ vs. onto (row_of (take (i + 1) c.deref-f-items.result.now) vs) (model.made_row rest given)) new
-          ∙ ap (λ fs. onto (row_of fs (values ++ v ∷ [])) (model.made_row rest given)) (take_more c.deref-f-items.result.now i f c.loop-f-test.true ∙ ap (λ x. take i c.deref-f-items.result.now ++ x ∷ []) (sym c.f-item.is))
-          ∙ ap (λ r. onto r (model.made_row rest given)) (row_of_push (take i c.deref-f-items.result.now) values f v (c.loop-f.invariant.one_each ∙ sym (length-take-le i c.deref-f-items.result.now low)))
+          ∙ ap (λ fs. onto (row_of fs (values ++ v ∷ [])) (model.made_row rest given)) (take_more c.deref-f-items.result.now i f c.loop-f-test.true
+          ∙ ap (λ x. take i c.deref-f-items.result.now ++ x ∷ []) (sym c.f-item.is))
+          ∙ ap (λ r. onto r (model.made_row rest given)) (row_of_push (take i c.deref-f-items.result.now) values f v (c.loop-f.invariant.one_each
+          ∙ sym (length-take-le i c.deref-f-items.result.now low)))
           ∙ sym (made_more (field f) rest given (row_of (take i c.deref-f-items.result.now) values) (value v) is)
           ∙ ap (λ fs. onto (row_of (take i c.deref-f-items.result.now) values) (model.made_row (map field fs) given)) (sym (split_at c.deref-f-items.result.now i f c.loop-f-test.true c.f-item.is))
           ∙ c.loop-f.invariant.so_far;

@@ -9,6 +9,7 @@ use Rattle.hp_ops.proofs.rows.made_row.Given as goal
 abbrev pub invariant-loop-f : goal.invariant-loop-f
 invariant-loop-f l =
     record {
-      so_far : onto (row_of (take l.f-index l.f-items) l.values.items) (model.made_row (map field (drop l.f-index l.f-items)) (given_in l.given)) ≡ model.made_row (map field l.f-items) (given_in l.given);
+      so_far : onto (row_of (take l.f-index l.f-items) l.values.items) (model.made_row (map field (drop l.f-index l.f-items)) (given_in l.given)) ≡ model.made_row
+          (map field l.f-items) (given_in l.given);
       one_each : length l.values.items ≡ l.f-index;
     }

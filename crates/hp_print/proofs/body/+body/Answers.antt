@@ -16,7 +16,8 @@ use Rattle.hp_print.proofs.StatementSteps.{when_step, each_step, for_step, with_
 use Rattle.hp_print.proofs.body.+body.Goals as goal
 
 pub when-returns : goal.when-returns
-when-returns t c = then_ok c.other_body.result (λ last rest. ap (text_with c.args.w.now) (when_step _ _ _ _ rest) ∙ c.in_ok-mark.ensures _ ∙ c.in_ok-any_expression.ensures _ ∙ c.in_ok-body.ensures _ ∙ last rest) c.other_body.ensures
+when-returns t c = then_ok c.other_body.result (λ last rest. ap (text_with c.args.w.now) (when_step _ _ _ _ rest) ∙ c.in_ok-mark.ensures _ ∙ c.in_ok-any_expression.ensures _
+    ∙ c.in_ok-body.ensures _ ∙ last rest) c.other_body.ensures
 
 pub each-returns : goal.each-returns
 each-returns t c = then_ok c.body.result (λ last rest. ap (text_with c.args.w.now) (each_step _ _ _ rest) ∙ c.in_ok-mark.ensures _ ∙ c.in_ok-rows.ensures _ ∙ last rest) c.body.ensures
@@ -25,13 +26,15 @@ pub for_answer-returns : goal.for_answer-returns
 for_answer-returns t c = then_ok c.body.result (λ last rest. ap (text_with c.args.w.now) (for_step _ _ _ rest) ∙ c.in_ok-mark.ensures _ ∙ c.in_ok-name.ensures _ ∙ last rest) c.body.ensures
 
 pub with_object-returns : goal.with_object-returns
-with_object-returns t c = then_ok c.body.result (λ last rest. ap (text_with c.args.w.now) (with_step _ _ _ _ _ rest) ∙ c.in_ok-mark.ensures _ ∙ c.in_ok-object.ensures _ ∙ c.in_ok-mark-2.ensures _ ∙ c.in_ok-name.ensures _ ∙ last rest) c.body.ensures
+with_object-returns t c = then_ok c.body.result (λ last rest. ap (text_with c.args.w.now) (with_step _ _ _ _ _ rest) ∙ c.in_ok-mark.ensures _
+    ∙ c.in_ok-object.ensures _ ∙ c.in_ok-mark-2.ensures _ ∙ c.in_ok-name.ensures _ ∙ last rest) c.body.ensures
 
 pub with_value-returns : goal.with_value-returns
 with_value-returns t c = then_ok c.body.result (λ last rest. ap (text_with c.args.w.now) (let_step _ _ _ _ rest) ∙ c.in_ok-word.ensures _ ∙ c.in_ok-binding.ensures _ ∙ last rest) c.body.ensures
 
 pub subtransaction-returns : goal.subtransaction-returns
-subtransaction-returns t c = then_ok c.other_body.result (λ last rest. ap (text_with c.args.w.now) (sub_step _ _ _ rest) ∙ c.in_ok-mark.ensures _ ∙ c.in_ok-body.ensures _ ∙ last rest) c.other_body.ensures
+subtransaction-returns t c = then_ok c.other_body.result (λ last rest. ap (text_with c.args.w.now) (sub_step _ _ _ rest) ∙ c.in_ok-mark.ensures _ ∙ c.in_ok-body.ensures _ ∙ last rest)
+    c.other_body.ensures
 
 pub of_two-returns-in-delete : goal.of_two-returns-in-delete
 of_two-returns-in-delete t c = rw c.in-delete.is c.delete.ensures
@@ -67,14 +70,16 @@ pub body-returns : goal.body-returns
 body-returns t c =
     let m = c.args.nest.levels - 1 in
     then_ok c.braced.result
-    (λ last rest. ap (λ o. text_with c.args.w.now (step (λ b. body_pieces b c.args.nest.depth) o rest)) (body_of_list c.args.nest.levels m _ _ (omega (arith, c.if-nest-eq0.false)) (sym c.in-Some.ensures))
+    (λ last rest. ap (λ o. text_with c.args.w.now (step (λ b. body_pieces b c.args.nest.depth) o rest))
+    (body_of_list c.args.nest.levels m _ _ (omega (arith, c.if-nest-eq0.false)) (sym c.in-Some.ensures))
     ∙ ap (text_with c.args.w.now) (body_step c.args.nest.depth _ rest) ∙ last rest)
     c.braced.ensures
 
 pub braced-returns : goal.braced-returns
 braced-returns t c =
     then_ok c.mark-2.result
-    (λ last rest. ap (text_with c.args.w.now) (braced_step c.args.nest.depth _ c.args.nest.levels _ rest (omega arith) (not_nil view c.args.values.now c.if-values-eq0.false)) ∙ c.in_ok-mark.ensures _ ∙ c.in_ok-statements.ensures _ ∙ last rest)
+    (λ last rest. ap (text_with c.args.w.now) (braced_step c.args.nest.depth _ c.args.nest.levels _ rest (omega arith) (not_nil view c.args.values.now c.if-values-eq0.false))
+    ∙ c.in_ok-mark.ensures _ ∙ c.in_ok-statements.ensures _ ∙ last rest)
     c.mark-2.ensures
 
 pub statements-returns : goal.statements-returns
@@ -91,11 +96,13 @@ of_form-returns-in-len2 t c = rw (two_items view c.args.parts.now c.first-item.r
 
 pub of_form-returns-in-len3 : goal.of_form-returns-in-len3
 of_form-returns-in-len3 t c =
-    rw (three_items view c.args.parts.now c.first-item-then-parts-lt4.result c.second-item-then-parts-lt4.result c.third-item.result c.in-len3.len_at_least c.in-len3.len_below c.first-item-then-parts-lt4.is c.second-item-then-parts-lt4.is c.third-item.is) c.of_three.ensures
+    rw (three_items view c.args.parts.now c.first-item-then-parts-lt4.result c.second-item-then-parts-lt4.result c.third-item.result c.in-len3.len_at_least
+    c.in-len3.len_below c.first-item-then-parts-lt4.is c.second-item-then-parts-lt4.is c.third-item.is) c.of_three.ensures
 
 pub of_form-returns-in-len4 : goal.of_form-returns-in-len4
 of_form-returns-in-len4 t c =
-    rw (four_items view c.args.parts.now c.name-item.result c.class-item.result c.value-item.result c.inner-item.result c.in-len4.len_at_least c.in-len4.len_below c.name-item.is c.class-item.is c.value-item.is c.inner-item.is) c.of_four.ensures
+    rw (four_items view c.args.parts.now c.name-item.result c.class-item.result c.value-item.result c.inner-item.result c.in-len4.len_at_least c.in-len4.len_below
+    c.name-item.is c.class-item.is c.value-item.is c.inner-item.is) c.of_four.ensures
 
 pub of_form-returns-in_default : goal.of_form-returns-in_default
 of_form-returns-in_default t c rest = rw (five_parts view (body_of c.args.nest.levels) c.args.word.now c.args.parts.now c.in_default.len_at_least) (c.refuse.ensures rest)
@@ -107,7 +114,8 @@ pub other_body-returns-then-is_empty_list : goal.other_body-returns-then-is_empt
 other_body-returns-then-is_empty_list t c rest =
     let more : suc (c.args.nest.levels - 1) ≡ c.args.nest.levels = omega (arith, c.if-nest-eq0.false) in
     ap (text_with c.args.w.now)
-    (nothing_step (mark_view c.args.mark) c.args.nest.depth _ (subst (λ n. body_of n (view c.args.value.now) ≡ Some empty) more (c.is_empty_list.ensures.empty c.if-is_empty_list.true (c.args.nest.levels - 1))) rest)
+    (nothing_step (mark_view c.args.mark) c.args.nest.depth _ (subst (λ n. body_of n (view c.args.value.now) ≡ Some empty) more
+    (c.is_empty_list.ensures.empty c.if-is_empty_list.true (c.args.nest.levels - 1))) rest)
 
 pub other_body-returns : goal.other_body-returns
 other_body-returns t c =
@@ -119,5 +127,6 @@ other_body-returns t c =
 
 pub statements-loop-value-preserved : goal.statements-loop-value-preserved
 statements-loop-value-preserved t c =
-    steps_more (λ (d : Data). step (λ s. statement_pieces s c.args.nest.depth) (statement_within c.args.nest.levels d)) view c.args.values.now c.loop-value.value-index c.value-item.result c.loop-value.w c.statement.new.w _
+    steps_more (λ (d : Data). step (λ s. statement_pieces s c.args.nest.depth) (statement_within c.args.nest.levels d)) view c.args.values.now
+    c.loop-value.value-index c.value-item.result c.loop-value.w c.statement.new.w _
     c.loop-value-test.true c.value-item.is c.in_ok-statement.ensures c.loop-value.invariant

@@ -13,7 +13,9 @@ returns-in-Some c =
     let z = c.in-Some.number in
     let fits : SFits w64 z = search rules in
     let back : to_z w64 (of_z w64 z) ≡ z = to_z-of_z w64 z fits in
-    onward c.integer.result c.args.w.now c.integer.new.w (λ e. expression_pieces e (gap_view c.args.gap)) _ _ (integer_literal (view c.args.value.now) z (sym c.in-Some.ensures) (fits_is z fits) ∙ ap (λ x. Some (F.integer x)) (sym back)) c.integer.ensures
+    onward c.integer.result c.args.w.now c.integer.new.w (λ e. expression_pieces e (gap_view c.args.gap)) _ _
+    (integer_literal (view c.args.value.now) z (sym c.in-Some.ensures) (fits_is z fits) ∙ ap (λ x. Some (F.integer x)) (sym back)) c.integer.ensures
 
 pub returns-in-Some-as_str : goal.returns-in-Some-as_str
-returns-in-Some-as_str c = onward c.text.result c.args.w.now c.text.new.w (λ e. expression_pieces e (gap_view c.args.gap)) _ _ (text_literal (view c.args.value.now) _ (sym c.in-Some-as_str.ensures)) c.text.ensures
+returns-in-Some-as_str c = onward c.text.result c.args.w.now c.text.new.w (λ e. expression_pieces e (gap_view c.args.gap)) _ _
+    (text_literal (view c.args.value.now) _ (sym c.in-Some-as_str.ensures)) c.text.ensures

@@ -9,4 +9,5 @@ use Rattle.hp_print.proofs.expression.text.Goals as goal
 
 pub returns : goal.returns
 returns c =
-    onward c.put.result c.args.w.now c.put.new.self (λ e. expression_pieces e (gap_view c.args.gap)) _ _ (ap (λ b. if b then Some (F.text c.args.string.now) else None) (is_utf8-from_IsUtf8 _ c.utf8.string)) c.put.ensures
+    onward c.put.result c.args.w.now c.put.new.self (λ e. expression_pieces e (gap_view c.args.gap)) _ _
+    (ap (λ b. if b then Some (F.text c.args.string.now) else None) (is_utf8-from_IsUtf8 _ c.utf8.string)) c.put.ensures

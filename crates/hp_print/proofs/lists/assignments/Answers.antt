@@ -10,4 +10,6 @@ use Rattle.hp_print.proofs.lists.assignments.Goals as goal
 
 pub returns-in_ok-assignment-in-Some-len1-up : goal.returns-in_ok-assignment-in-Some-len1-up
 returns-in_ok-assignment-in-Some-len1-up c =
-    then_ok c.more_parts.result (λ last rest. ap (text_with c.args.w.now) (assignments_step (comma_step Assignment) (λ e r. refl) (view c.args.value.now) _ _ (sym c.in-Some-len1-up.ensures ∙ ap Some (first_item view _ c.first-item.result _ c.in-Some-len1-up.len_at_least c.first-item.is (rest_whole 1 c.in-Some-len1-up.field-0.now))) rest) ∙ c.in_ok-mark-in-Some-len1-up.ensures _ ∙ c.in_ok-assignment-in-Some-len1-up.ensures _ ∙ last rest) c.more_parts.ensures
+    then_ok c.more_parts.result (λ last rest. ap (text_with c.args.w.now) (assignments_step (comma_step Assignment) (λ e r. refl) (view c.args.value.now)
+    _ _ (sym c.in-Some-len1-up.ensures ∙ ap Some (first_item view _ c.first-item.result _ c.in-Some-len1-up.len_at_least c.first-item.is (rest_whole 1 c.in-Some-len1-up.field-0.now)))
+    rest) ∙ c.in_ok-mark-in-Some-len1-up.ensures _ ∙ c.in_ok-assignment-in-Some-len1-up.ensures _ ∙ last rest) c.more_parts.ensures

@@ -5,4 +5,5 @@ use Rattle.hp_print.proofs.Operands.{argument_step}
 use Rattle.hp_print.proofs.operand.argument.Goals as goal
 
 pub returns : goal.returns
-returns c = then_ok c.mark-4.result (λ last rest. ap (text_with c.args.w.now) (argument_step _ _ _ rest) ∙ c.in_ok-mark.ensures _ ∙ c.in_ok-part.ensures _ ∙ c.in_ok-mark-2.ensures _ ∙ c.in_ok-word.ensures _ ∙ c.in_ok-mark-3.ensures _ ∙ c.in_ok-natural.ensures _ ∙ last rest) c.mark-4.ensures
+returns c = then_ok c.mark-4.result (λ last rest. ap (text_with c.args.w.now) (argument_step _ _ _ rest) ∙ c.in_ok-mark.ensures _ ∙ c.in_ok-part.ensures _
+    ∙ c.in_ok-mark-2.ensures _ ∙ c.in_ok-word.ensures _ ∙ c.in_ok-mark-3.ensures _ ∙ c.in_ok-natural.ensures _ ∙ last rest) c.mark-4.ensures

@@ -8,4 +8,5 @@ returns-then-writer c =
 
 pub returns : goal.returns
 returns c =
-    script_printed _ _ _ _ _ _ _ _ _ _ c.new-writer.ensures.refused c.new-writer.ensures.text c.new-writer.ensures.line c.new-writer.ensures.last c.if-writer.false c.in_ok-push_str.ensures.bytes (c.in_ok-script.ensures (Some []))
+    script_printed _ _ _ _ _ _ _ _ _ _ c.new-writer.ensures.refused c.new-writer.ensures.text c.new-writer.ensures.line c.new-writer.ensures.last
+    c.if-writer.false c.in_ok-push_str.ensures.bytes (c.in_ok-script.ensures (Some []))

@@ -9,7 +9,8 @@ use Rattle.hp_print.proofs.rule.each_condition.Goals as goal
 
 pub loop-value-preserved : goal.loop-value-preserved
 loop-value-preserved c =
-    steps_more (λ (d : Data). step condition_pieces (query_of c.args.lets d)) view c.args.values.now c.loop-value.value-index c.value-item.result c.loop-value.w c.condition.new.w _ c.loop-value-test.true c.value-item.is c.in_ok-condition.ensures c.loop-value.invariant
+    steps_more (λ (d : Data). step condition_pieces (query_of c.args.lets d)) view c.args.values.now c.loop-value.value-index c.value-item.result
+    c.loop-value.w c.condition.new.w _ c.loop-value-test.true c.value-item.is c.in_ok-condition.ensures c.loop-value.invariant
 
 pub returns : goal.returns
 returns c rest =

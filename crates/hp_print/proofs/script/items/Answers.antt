@@ -10,4 +10,5 @@ use Rattle.hp_print.proofs.script.items.Goals as goal
 
 pub returns-in-Some : goal.returns-in-Some
 returns-in-Some c =
-    then_ok c.each.result (λ last rest. ap (text_with c.args.w.now) (list_step items_pieces item_form _ _ (sym c.in-Some.ensures) rest ∙ sym (each_list later_item_pieces item_form _ rest)) ∙ last rest) c.each.ensures
+    then_ok c.each.result (λ last rest. ap (text_with c.args.w.now) (list_step items_pieces item_form _ _ (sym c.in-Some.ensures) rest ∙ sym (each_list later_item_pieces item_form _ rest))
+    ∙ last rest) c.each.ensures

@@ -12,4 +12,5 @@ use Rattle.hp_print.proofs.script.rules.Goals as goal
 pub returns-in-Some : goal.returns-in-Some
 returns-in-Some c =
     then_ok c.each.result
-    (λ last rest. ap (text_with c.args.w.now) (list_step rules_pieces (rule_form c.args.lets) (view c.args.value.now) (map view c.in-Some.values.now) (sym c.in-Some.ensures) rest ∙ sym (each_list rule_pieces (rule_form c.args.lets) (map view c.in-Some.values.now) rest)) ∙ last rest) c.each.ensures
+    (λ last rest. ap (text_with c.args.w.now) (list_step rules_pieces (rule_form c.args.lets) (view c.args.value.now) (map view c.in-Some.values.now) (sym c.in-Some.ensures) rest
+    ∙ sym (each_list rule_pieces (rule_form c.args.lets) (map view c.in-Some.values.now) rest)) ∙ last rest) c.each.ensures

@@ -48,7 +48,8 @@ loop-key-preserved g c =
                 collects_more keys c.loop-key.key-index _ c.loop-key.objects c.match-branch-3.objects w.in-Some.row c.loop-key-test.true (to_z-of_z w64 _ fits) before
                 (sym w.in-Some.is ∙ c.in_ok-row.ensures.found world rise allowed) (w.objects-is ∙ w.in_ok-push.ensures.ok)
             | in_default w ↦
-                absurd (collects_each keys c.loop-key.key-index _ c.loop-key.objects c.loop-key-test.true (to_z-of_z w64 _ fits) before (sym w.in_default.is ∙ c.in_ok-row.ensures.found world rise allowed))
+                absurd (collects_each keys c.loop-key.key-index _ c.loop-key.objects c.loop-key-test.true (to_z-of_z w64 _ fits) before
+                (sym w.in_default.is ∙ c.in_ok-row.ensures.found world rise allowed))
           ];
     }
 

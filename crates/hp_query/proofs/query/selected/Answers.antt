@@ -45,7 +45,8 @@ loop-object-preserved c =
           ∙ ap (λ o. front ++ o ∷ []) w.in_ok-clone.ensures.cases in
           subst (IsLeft env x predicate all rest) (sym rows) (left_kept env x predicate all (keyed_row object) rest front at (ap Ok (sym w.if-branch.true) ∙ told))
       | else-branch w ↦
-          subst (IsLeft env x predicate all rest) (sym (ap (λ v. map keyed_row v.items) w.rows-is)) (left_dropped env x predicate all (keyed_row object) rest front at (ap Ok (sym w.if-branch.false) ∙ told))
+          subst (IsLeft env x predicate all rest) (sym (ap (λ v. map keyed_row v.items) w.rows-is))
+          (left_dropped env x predicate all (keyed_row object) rest front at (ap Ok (sym w.if-branch.false) ∙ told))
     ]
 
 pub returns : goal.returns

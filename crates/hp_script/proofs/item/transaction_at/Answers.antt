@@ -5,7 +5,8 @@ use Rattle.hp_script.proofs.item.transaction_at.Goals as goal
 
 pub of_checked-requires : goal.of_checked-requires
 of_checked-requires c =
-    body_checked _ (library c.args.library.now.value) _ _ c.in_ok-statements.statements.items (rw (c.no_names-names.ensures, c.of_library-scope.ensures.scope, c.of_library-scope.ensures.version, c.item.ensures, c.deref.ensures) at c.in_ok-statements.ensures)
+    body_checked _ (library c.args.library.now.value) _ _ c.in_ok-statements.statements.items
+    (rw (c.no_names-names.ensures, c.of_library-scope.ensures.scope, c.of_library-scope.ensures.version, c.item.ensures, c.deref.ensures) at c.in_ok-statements.ensures)
 
 pub returns-clause-own : goal.returns-clause-own
 returns-clause-own c own = own_body _ _ _ _ _ c.in_ok-push.ensures.items c.in_ok-body.ensures.library own

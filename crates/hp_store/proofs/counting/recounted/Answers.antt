@@ -28,7 +28,8 @@ loop-cell-preserved c =
     let long = ap length c.in-Some.ensures.steps in
     record {
       counts =
-          recounts_next (over (base_cells c.args.base.now) (changes_in c.args.layers.now)) c.args.class c.args.more.now c.loop-cell.number c.changed_by-number.result c.loop-cell.cell-iterator c.next.new.self
+          recounts_next (over (base_cells c.args.base.now) (changes_in c.args.layers.now)) c.args.class c.args.more.now c.loop-cell.number c.changed_by-number.result
+          c.loop-cell.cell-iterator c.next.new.self
           c.in-Some.cell.now c.in-Some.change.now c.is_there.result c.loop-cell.invariant.counts c.in-Some.ensures.steps c.is_there.ensures
           (subst (λ b. c.changed_by-number.result ≡ c.loop-cell.number + one_if b - one_if c.is_there.result) c.is_some.ensures c.changed_by-number.ensures);
       few = omega (arith, long, c.loop-cell.invariant.few, c.changed_by-number.ensures, no_more c.loop-cell.number c.is_some.result c.is_there.result);

@@ -8,7 +8,8 @@ use Rattle.hp_store.specs.declared.index.Index.{Index}
 use Rattle.hp_store.proofs.index.renew_all.Goals as goal
 
 -- an index that is left as it was leaves all as they were
-stays : (P : Index → Type 0) (first now : List Index) (i : ℕ) (was renewed : Index) → now ≡ first → i < length now → was ≡ slice_index_or now i was → (P was → renewed ≡ was) → All P first → slice_set now i renewed ≡ first
+stays : (P : Index → Type 0) (first now : List Index) (i : ℕ) (was renewed : Index) → now ≡ first → i < length now → was ≡ slice_index_or now i was
+    → (P was → renewed ≡ was) → All P first → slice_set now i renewed ≡ first
 stays P first now i was renewed same within is keeps all =
     let here : P was = subst P (sym is) (All-get_or P now i was within (subst (All P) (sym same) all)) in
     ap (slice_set now i) (keeps here ∙ is) ∙ set-get_or now i was ∙ same

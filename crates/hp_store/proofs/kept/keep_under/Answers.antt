@@ -9,5 +9,6 @@ pub returns : goal.returns
 returns c = λ base are kept.
     let list = c.args.list.now in
     let pushed : c.push.new.self.items ≡ c.args.kept.now.items ++ record { class = list.class; objects = c.in-Some.objects } ∷ [] = search rules in
-    let under = told_some (λ objects. (base : Cells) → AreObjects base list.class list.objects.value → AreObjects (over base (changes c.args.layer.now)) list.class objects.value) c.in-Some.is c.in_ok-objects.ensures base are in
+    let under = told_some (λ objects. (base : Cells) → AreObjects base list.class list.objects.value → AreObjects (over base (changes c.args.layer.now)) list.class objects.value)
+    c.in-Some.is c.in_ok-objects.ensures base are in
     kept_more (over base (changes c.args.layer.now)) c.args.kept.now.items c.push.new.self.items (record { class = list.class; objects = c.in-Some.objects }) kept under pushed

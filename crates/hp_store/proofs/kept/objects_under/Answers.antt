@@ -13,5 +13,6 @@ returns-then-not-names_objects_of c = λ base are.
 pub returns : goal.returns
 returns c = λ base are.
     let list = c.args.list.now in
-    let merged = told_some (λ objects. (cells : Cells) → AreObjects cells list.class c.deref.result.now → AreObjects (over cells (changes c.args.layer.now)) list.class objects) c.in-Some.is c.in_ok-objects.ensures.merged in
+    let merged = told_some (λ objects. (cells : Cells) → AreObjects cells list.class c.deref.result.now → AreObjects (over cells (changes c.args.layer.now)) list.class objects)
+    c.in-Some.is c.in_ok-objects.ensures.merged in
     subst (AreObjects (over base (changes c.args.layer.now)) list.class) (sym c.in_ok-new.ensures.ok) (merged base (subst (AreObjects base list.class) (sym c.deref.ensures) are))

@@ -11,9 +11,11 @@ loop-cell-init c = notes_none c.in_ok-index.index c.args.named.now.entries c.int
 
 pub loop-cell-preserved : goal.loop-cell-preserved
 loop-cell-preserved c =
-    notes_more c.loop-cell.index c.enter_at.new.self c.args.named.now.entries c.loop-cell.cell-iterator c.next.new.self (c.in-Some.cell.now, c.in-Some.change.now) c.in-Some.ensures.steps c.enter_at.ensures.same
+    notes_more c.loop-cell.index c.enter_at.new.self c.args.named.now.entries c.loop-cell.cell-iterator c.next.new.self (c.in-Some.cell.now, c.in-Some.change.now)
+    c.in-Some.ensures.steps c.enter_at.ensures.same
     c.enter_at.ensures.kept
-    (λ key is. subst (λ v. IsIn c.enter_at.new.self key v) (found_value c.as_ref.result ∙ ap (option_map cell_value) c.as_ref.ensures.value) (c.enter_at.ensures.entered c.if-not-enter_at.false key is))
+    (λ key is. subst (λ v. IsIn c.enter_at.new.self key v) (found_value c.as_ref.result ∙ ap (option_map cell_value) c.as_ref.ensures.value)
+    (c.enter_at.ensures.entered c.if-not-enter_at.false key is))
     c.loop-cell.invariant
 
 pub returns : goal.returns

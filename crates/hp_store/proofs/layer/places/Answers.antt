@@ -18,18 +18,21 @@ further keys from next place is = ap (λ n. drop n keys) is ∙ sym (drop-drop n
 found : (c : goal.In-Ok) → HoldsAt (λ x. int_cmp x c.args.key ≡ Equal) (drop c.args.from c.args.keys.now) c.in-Ok.at
 found c =
     subst (λ (l : List ℤ). HoldsAt (λ x. int_cmp x c.args.key ≡ Equal) l c.in-Ok.at) (take_rest c.args.keys.now c.args.from)
-    (subst (λ (k : ℤ). HoldsAt (λ x. int_cmp x k ≡ Equal) (take (length c.args.keys.now - c.args.from) (drop c.args.from c.args.keys.now)) c.in-Ok.at) (to_z-of_z w64 c.args.key c.ranges.key) c.in-Ok.ensures.ok)
+    (subst (λ (k : ℤ). HoldsAt (λ x. int_cmp x k ≡ Equal) (take (length c.args.keys.now - c.args.from) (drop c.args.from c.args.keys.now)) c.in-Ok.at)
+    (to_z-of_z w64 c.args.key c.ranges.key) c.in-Ok.ensures.ok)
 
 found_within : (c : goal.In-Ok) → c.in-Ok.at < length (drop c.args.from c.args.keys.now)
 found_within c = subst (λ (l : List ℤ). c.in-Ok.at < length l) (take_rest c.args.keys.now c.args.from) c.in-Ok.ensures.bound
 
-split : (c : goal.In-Err) → IsStrictlySortedBy int_cmp (drop c.args.from c.args.keys.now) → IsPartitionPoint (λ x. int_cmp x c.args.key ≡ Less) (λ x. int_cmp x c.args.key ≡ Greater) (drop c.args.from c.args.keys.now) c.in-Err.at
+split : (c : goal.In-Err) → IsStrictlySortedBy int_cmp (drop c.args.from c.args.keys.now)
+    → IsPartitionPoint (λ x. int_cmp x c.args.key ≡ Less) (λ x. int_cmp x c.args.key ≡ Greater) (drop c.args.from c.args.keys.now) c.in-Err.at
 split c rise =
     subst (λ (l : List ℤ). IsPartitionPoint (λ x. int_cmp x c.args.key ≡ Less) (λ x. int_cmp x c.args.key ≡ Greater) l c.in-Err.at) (take_rest c.args.keys.now c.args.from)
     (subst (λ (k : ℤ). IsPartitionPoint (λ x. int_cmp x k ≡ Less) (λ x. int_cmp x k ≡ Greater) (take (length c.args.keys.now - c.args.from) (drop c.args.from c.args.keys.now)) c.in-Err.at)
     (to_z-of_z w64 c.args.key c.ranges.key)
     (c.in-Err.ensures.position
-    (searchable (take (length c.args.keys.now - c.args.from) (drop c.args.from c.args.keys.now)) (to_z w64 (of_z w64 c.args.key)) (subst (IsStrictlySortedBy int_cmp) (sym (take_rest c.args.keys.now c.args.from)) rise))))
+    (searchable (take (length c.args.keys.now - c.args.from) (drop c.args.from c.args.keys.now)) (to_z w64 (of_z w64 c.args.key))
+    (subst (IsStrictlySortedBy int_cmp) (sym (take_rest c.args.keys.now c.args.from)) rise))))
 
 split_within : (c : goal.In-Err) → c.in-Err.at ≤ length (drop c.args.from c.args.keys.now)
 split_within c = subst (λ (l : List ℤ). c.in-Err.at ≤ length l) (take_rest c.args.keys.now c.args.from) c.in-Err.ensures.bound

@@ -18,7 +18,8 @@ loop-shared-preserved c =
       kept = λ key out. c.loop-shared.invariant.kept key (not_before old more new c.in_ok-add.ensures key out);
       covers =
           covers_more (is_among new) part c.args.class c.args.layers.now c.loop-shared.shared-index c.shared-item.result c.loop-shared-test.true c.shared-item.is
-          (covers_wider (is_among old) (is_among new) part c.args.class (over no_cells (changes_in (take c.loop-shared.shared-index c.args.layers.now))) (not_before old more new c.in_ok-add.ensures) c.loop-shared.invariant.covers)
+          (covers_wider (is_among old) (is_among new) part c.args.class (over no_cells (changes_in (take c.loop-shared.shared-index c.args.layers.now)))
+          (not_before old more new c.in_ok-add.ensures) c.loop-shared.invariant.covers)
           (covers_wider (is_among more) (is_among new) part c.args.class (over no_cells (changes c.shared-item.result)) (not_after old more new c.in_ok-add.ensures) c.candidates.ensures);
     }
 

@@ -11,5 +11,6 @@ loop-shared-preserved c = elim c.match-layer.branch [
       ∙ fold_more c.args.layers.now c.loop-shared.shared-index c.shared-item.result w.in-Some.layer.now c.loop-shared.all w.take_in.new.self c.loop-shared-test.true c.shared-item.is w.in-Some.ensures
       c.loop-shared.invariant w.in_ok-take_in.ensures.ok q
   | in_default w ↦ λ q.
-      ap (λ es. changes es q) w.all-is ∙ c.loop-shared.invariant q ∙ nothing_more c.args.layers.now c.loop-shared.shared-index c.shared-item.result c.loop-shared-test.true c.shared-item.is w.in_default.ensures q
+      ap (λ es. changes es q) w.all-is ∙ c.loop-shared.invariant q ∙ nothing_more c.args.layers.now c.loop-shared.shared-index c.shared-item.result
+      c.loop-shared-test.true c.shared-item.is w.in_default.ensures q
 ]

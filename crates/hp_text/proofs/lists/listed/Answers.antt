@@ -16,7 +16,8 @@ returns-then-not-is_mark c =
     let next = tokens_view c.read_part.new.tokens in
     let whole = listed part (size (tokens_view c.args.tokens.now)) (tokens_view c.args.tokens.now) in
     let is : n - l.done ≡ suc (n - (l.done + 1)) = omega arith in
-    listed_last part whole (n - l.done) (n - (l.done + 1)) (map node_view l.parts.items) (node_view c.in_ok-part.part) ts next l.invariant is c.in_ok-part.ensures (sym c.is_mark.ensures ∙ c.if-not-is_mark.true)
+    listed_last part whole (n - l.done) (n - (l.done + 1)) (map node_view l.parts.items) (node_view c.in_ok-part.part) ts next l.invariant is c.in_ok-part.ensures
+    (sym c.is_mark.ensures ∙ c.if-not-is_mark.true)
     ∙ ap (λ ns. Ok (nodes ns, next)) (nodes_more l.parts.items c.push.new.self.items c.in_ok-part.part c.in_ok-push.ensures.items)
 
 pub returns-in_err-part : goal.returns-in_err-part
@@ -26,7 +27,8 @@ returns-in_err-part c =
     let part = phrase_of c.args.kind in
     let whole = listed part (size (tokens_view c.args.tokens.now)) (tokens_view c.args.tokens.now) in
     let is : n - l.done ≡ suc (n - (l.done + 1)) = omega arith in
-    let stops : Stops c.in_err-part.field-0.0 whole = listed_stops part whole (n - l.done) (n - (l.done + 1)) (map node_view l.parts.items) (tokens_view l.tokens) c.in_err-part.field-0.0 l.invariant is c.in_err-part.ensures in
+    let stops : Stops c.in_err-part.field-0.0 whole = listed_stops part whole (n - l.done) (n - (l.done + 1)) (map node_view l.parts.items) (tokens_view l.tokens)
+    c.in_err-part.field-0.0 l.invariant is c.in_err-part.ensures in
     search rules
 
 pub loop-done-preserved : goal.loop-done-preserved
@@ -38,7 +40,8 @@ loop-done-preserved c =
     let next = tokens_view c.read_part.new.tokens in
     let whole = listed part (size (tokens_view c.args.tokens.now)) (tokens_view c.args.tokens.now) in
     let is : n - l.done ≡ suc (n - (l.done + 1)) = omega arith in
-    listed_more part whole (n - l.done) (n - (l.done + 1)) (map node_view l.parts.items) (node_view c.in_ok-part.part) ts next l.invariant is c.in_ok-part.ensures (sym c.is_mark.ensures ∙ c.if-not-is_mark.false)
+    listed_more part whole (n - l.done) (n - (l.done + 1)) (map node_view l.parts.items) (node_view c.in_ok-part.part) ts next l.invariant is c.in_ok-part.ensures
+    (sym c.is_mark.ensures ∙ c.if-not-is_mark.false)
     ∙ ap (λ ns. after ns (listed part (n - (l.done + 1)) (past next))) (nodes_more l.parts.items c.push.new.self.items c.in_ok-part.part c.in_ok-push.ensures.items)
     ∙ ap (λ rest. after (map node_view c.push.new.self.items) (listed part (n - (l.done + 1)) rest)) (sym c.skip.ensures)
 

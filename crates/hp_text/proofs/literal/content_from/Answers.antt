@@ -31,7 +31,8 @@ returns-then-stop-bytes-clause-value c =
     let long : length c.as_bytes-bytes.result.now ≡ length d = ap length same in
     let here : content 0 (drop (l.at + n) d) ≡ broken 0 = elim c.then-stop-bytes.branch [
       | then-stop-bytes-via-then-stop-bytes w ↦ at_end d (l.at + n) (omega (arith, w.if-stop-bytes.true))
-      | then-stop-bytes-via-else-stop-bytes+then-bytes-stop-lt32 w ↦ at_control d (l.at + n) (omega (arith, w.if-stop-bytes.false)) (subst (λ b. get_or b (l.at + n) 0 < 32) same w.if-bytes-stop-lt32.true)
+      | then-stop-bytes-via-else-stop-bytes+then-bytes-stop-lt32 w ↦ at_control d (l.at + n) (omega (arith, w.if-stop-bytes.false))
+          (subst (λ b. get_or b (l.at + n) 0 < 32) same w.if-bytes-stop-lt32.true)
     ] in
     broken_there (content 0 (drop c.args.start d)) d (string_bytes l.found) c.args.start l.at n l.invariant.so_far l.invariant.from is here
 
@@ -45,11 +46,13 @@ returns-then-bytes-stop-eq34-clause-value c =
     let size : n ≤ length d - l.at = omega (arith, is, prefix_len-le-length is_plain (drop l.at d), length-drop l.at d) in
     let within : l.at ≤ length d = l.invariant.boundary.0 in
     let there : l.at + n - l.at ≡ n = omega arith in
-    let run : string_bytes c.push_str.new.self ≡ string_bytes l.found ++ take n (drop l.at d) = c.in_ok-push_str.ensures.bytes ∙ ap (λ r. string_bytes l.found ++ r) (c.range.ensures.value ∙ ap (λ k. take k (drop l.at d)) there) in
+    let run : string_bytes c.push_str.new.self ≡ string_bytes l.found ++ take n (drop l.at d) = c.in_ok-push_str.ensures.bytes
+    ∙ ap (λ r. string_bytes l.found ++ r) (c.range.ensures.value ∙ ap (λ k. take k (drop l.at d)) there) in
     let long : length c.as_bytes-bytes.result.now ≡ length d = ap length same in
     let more : l.at + n < length d = omega (arith, c.if-stop-bytes.false) in
     let quote : get_or d (l.at + n) 0 ≡ 34 = subst (λ b. get_or b (l.at + n) 0 ≡ 34) same c.if-bytes-stop-eq34.true in
-    ap (λ t. closed t (l.at + n - c.args.start)) run ∙ closed_there (content 0 (drop c.args.start d)) d (string_bytes l.found) c.args.start l.at n l.invariant.so_far l.invariant.from is (at_quote d (l.at + n) more quote)
+    ap (λ t. closed t (l.at + n - c.args.start)) run ∙ closed_there (content 0 (drop c.args.start d)) d (string_bytes l.found) c.args.start l.at n
+    l.invariant.so_far l.invariant.from is (at_quote d (l.at + n) more quote)
 
 pub returns-in_default-clause-value : goal.returns-in_default-clause-value
 returns-in_default-clause-value c =
@@ -62,7 +65,8 @@ returns-in_default-clause-value c =
     let within : l.at ≤ length d = l.invariant.boundary.0 in
     let long : length c.as_bytes-bytes.result.now ≡ length d = ap length same in
     let more : l.at + n < length d = omega (arith, c.if-stop-bytes.false) in
-    let slash : get_or d (l.at + n) 0 ≡ 92 = stop_is_slash d l.at n is more (λ e. c.if-bytes-stop-eq34.false (ap (λ b. get_or b (l.at + n) 0) same ∙ e)) (subst (λ b. 32 ≤ get_or b (l.at + n) 0) same c.if-bytes-stop-lt32.false) in
+    let slash : get_or d (l.at + n) 0 ≡ 92 = stop_is_slash d l.at n is more (λ e. c.if-bytes-stop-eq34.false (ap (λ b. get_or b (l.at + n) 0) same ∙ e))
+    (subst (λ b. 32 ≤ get_or b (l.at + n) 0) same c.if-bytes-stop-lt32.false) in
     let rest = rest_of (l.at + n + 1) c.as_bytes-bytes.result.now ∙ ap (drop (l.at + n + 1)) same in
     let f : Option (ℕ × ℕ) → Option Character = λ o. option_map (λ (p : ℕ × ℕ). character_of p.0 p.1) o in
     let none : escape (drop (l.at + n + 1) d) ≡ None = sym (c.escape.ensures.value ∙ ap escape rest) ∙ ap f c.in_default.is in
@@ -78,16 +82,19 @@ runs-preserved c =
     let size : n ≤ length d - l.at = omega (arith, is, prefix_len-le-length is_plain (drop l.at d), length-drop l.at d) in
     let within : l.at ≤ length d = l.invariant.boundary.0 in
     let there : l.at + n - l.at ≡ n = omega arith in
-    let run : string_bytes c.push_str.new.self ≡ string_bytes l.found ++ take n (drop l.at d) = c.in_ok-push_str.ensures.bytes ∙ ap (λ r. string_bytes l.found ++ r) (c.range.ensures.value ∙ ap (λ k. take k (drop l.at d)) there) in
+    let run : string_bytes c.push_str.new.self ≡ string_bytes l.found ++ take n (drop l.at d) = c.in_ok-push_str.ensures.bytes
+    ∙ ap (λ r. string_bytes l.found ++ r) (c.range.ensures.value ∙ ap (λ k. take k (drop l.at d)) there) in
     let long : length c.as_bytes-bytes.result.now ≡ length d = ap length same in
     let more : l.at + n < length d = omega (arith, c.if-stop-bytes.false) in
-    let slash : get_or d (l.at + n) 0 ≡ 92 = stop_is_slash d l.at n is more (λ e. c.if-bytes-stop-eq34.false (ap (λ b. get_or b (l.at + n) 0) same ∙ e)) (subst (λ b. 32 ≤ get_or b (l.at + n) 0) same c.if-bytes-stop-lt32.false) in
+    let slash : get_or d (l.at + n) 0 ≡ 92 = stop_is_slash d l.at n is more (λ e. c.if-bytes-stop-eq34.false (ap (λ b. get_or b (l.at + n) 0) same ∙ e))
+    (subst (λ b. 32 ≤ get_or b (l.at + n) 0) same c.if-bytes-stop-lt32.false) in
     let rest = rest_of (l.at + n + 1) c.as_bytes-bytes.result.now ∙ ap (drop (l.at + n + 1)) same in
     let next : Character = character_of c.in-Some.character c.in-Some.more in
     let some : escape (drop (l.at + n + 1) d) ≡ Some next = sym (c.in-Some.ensures.value ∙ ap escape rest) in
     let ends : EndsInAscii c.in-Some.more (drop (l.at + n + 1) d) = subst (EndsInAscii c.in-Some.more) rest c.in-Some.ensures.bounds.1 in
     let on = goes_on (content 0 (drop c.args.start d)) d (string_bytes l.found) c.args.start l.at n l.invariant.so_far l.invariant.from is next (at_escape d (l.at + n) next more slash some ends.0) in
-    let text : string_bytes c.push.new.self ≡ (string_bytes l.found ++ take n (drop l.at d)) ++ encode_utf8 c.in-Some.character = c.in_ok-push.ensures.bytes ∙ ap (λ t. t ++ encode_utf8 c.in-Some.character) run in
+    let text : string_bytes c.push.new.self ≡ (string_bytes l.found ++ take n (drop l.at d)) ++ encode_utf8 c.in-Some.character =
+    c.in_ok-push.ensures.bytes ∙ ap (λ t. t ++ encode_utf8 c.in-Some.character) run in
     record {
       so_far = on ∙ ap (λ t. preceded_by t (l.at + n + 1 + c.in-Some.more - c.args.start) (content 0 (drop (l.at + n + 1 + c.in-Some.more) d))) (sym text);
       from = omega (arith, l.invariant.from);

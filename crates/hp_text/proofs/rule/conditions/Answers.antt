@@ -10,7 +10,8 @@ pub returns-then-not-is_mark : goal.returns-then-not-is_mark
 returns-then-not-is_mark c =
     let l = c.loop-done in
     let whole = repeated (is_mark if_mark) (condition c.args.lets) (size (tokens_view c.args.tokens.now)) (tokens_view c.args.tokens.now) in
-    repeated_over (is_mark if_mark) (condition c.args.lets) whole (c.count-count.result - l.done) (map node_view l.queries.items) (tokens_view l.tokens) l.invariant (sym c.is_mark.ensures ∙ c.if-not-is_mark.true)
+    repeated_over (is_mark if_mark) (condition c.args.lets) whole (c.count-count.result - l.done) (map node_view l.queries.items) (tokens_view l.tokens)
+    l.invariant (sym c.is_mark.ensures ∙ c.if-not-is_mark.true)
 
 pub returns-in_err-query : goal.returns-in_err-query
 returns-in_err-query c =
@@ -18,7 +19,8 @@ returns-in_err-query c =
     let n = c.count-count.result in
     let whole = repeated (is_mark if_mark) (condition c.args.lets) (size (tokens_view c.args.tokens.now)) (tokens_view c.args.tokens.now) in
     let is : n - l.done ≡ suc (n - (l.done + 1)) = omega arith in
-    let stops : Stops c.in_err-query.field-0.0 whole = repeated_stops (is_mark if_mark) (condition c.args.lets) whole (n - l.done) (n - (l.done + 1)) (map node_view l.queries.items) (tokens_view l.tokens) c.in_err-query.field-0.0 l.invariant is (sym c.is_mark.ensures ∙ c.if-not-is_mark.false) c.in_err-query.ensures in
+    let stops : Stops c.in_err-query.field-0.0 whole = repeated_stops (is_mark if_mark) (condition c.args.lets) whole (n - l.done) (n - (l.done + 1))
+    (map node_view l.queries.items) (tokens_view l.tokens) c.in_err-query.field-0.0 l.invariant is (sym c.is_mark.ensures ∙ c.if-not-is_mark.false) c.in_err-query.ensures in
     search rules
 
 pub loop-done-preserved : goal.loop-done-preserved
@@ -28,7 +30,8 @@ loop-done-preserved c =
     let next = tokens_view c.condition.new.tokens in
     let whole = repeated (is_mark if_mark) (condition c.args.lets) (size (tokens_view c.args.tokens.now)) (tokens_view c.args.tokens.now) in
     let is : n - l.done ≡ suc (n - (l.done + 1)) = omega arith in
-    repeated_more (is_mark if_mark) (condition c.args.lets) whole (n - l.done) (n - (l.done + 1)) (map node_view l.queries.items) (node_view c.in_ok-query.query) (tokens_view l.tokens) next l.invariant is (sym c.is_mark.ensures ∙ c.if-not-is_mark.false) c.in_ok-query.ensures
+    repeated_more (is_mark if_mark) (condition c.args.lets) whole (n - l.done) (n - (l.done + 1)) (map node_view l.queries.items) (node_view c.in_ok-query.query)
+    (tokens_view l.tokens) next l.invariant is (sym c.is_mark.ensures ∙ c.if-not-is_mark.false) c.in_ok-query.ensures
     ∙ ap (λ ns. after ns (repeated (is_mark if_mark) (condition c.args.lets) (n - (l.done + 1)) next)) (nodes_more l.queries.items c.push.new.self.items c.in_ok-query.query c.in_ok-push.ensures.items)
 
 pub returns : goal.returns

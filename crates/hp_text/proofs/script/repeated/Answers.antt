@@ -10,7 +10,8 @@ pub returns-then-not-begins : goal.returns-then-not-begins
 returns-then-not-begins c =
     let l = c.loop-done in
     let whole = repeated (begins_part c.args.kind) (phrase_of c.args.kind) (size (tokens_view c.args.tokens.now)) (tokens_view c.args.tokens.now) in
-    repeated_over (begins_part c.args.kind) (phrase_of c.args.kind) whole (c.count-count.result - l.done) (map node_view l.parts.items) (tokens_view l.tokens) l.invariant (sym c.begins.ensures ∙ c.if-not-begins.true)
+    repeated_over (begins_part c.args.kind) (phrase_of c.args.kind) whole (c.count-count.result - l.done) (map node_view l.parts.items) (tokens_view l.tokens)
+    l.invariant (sym c.begins.ensures ∙ c.if-not-begins.true)
 
 pub returns-in_err-part : goal.returns-in_err-part
 returns-in_err-part c =
@@ -18,7 +19,8 @@ returns-in_err-part c =
     let n = c.count-count.result in
     let whole = repeated (begins_part c.args.kind) (phrase_of c.args.kind) (size (tokens_view c.args.tokens.now)) (tokens_view c.args.tokens.now) in
     let is : n - l.done ≡ suc (n - (l.done + 1)) = omega arith in
-    let stops : Stops c.in_err-part.field-0.0 whole = repeated_stops (begins_part c.args.kind) (phrase_of c.args.kind) whole (n - l.done) (n - (l.done + 1)) (map node_view l.parts.items) (tokens_view l.tokens) c.in_err-part.field-0.0 l.invariant is (sym c.begins.ensures ∙ c.if-not-begins.false) c.in_err-part.ensures in
+    let stops : Stops c.in_err-part.field-0.0 whole = repeated_stops (begins_part c.args.kind) (phrase_of c.args.kind) whole (n - l.done) (n - (l.done + 1))
+    (map node_view l.parts.items) (tokens_view l.tokens) c.in_err-part.field-0.0 l.invariant is (sym c.begins.ensures ∙ c.if-not-begins.false) c.in_err-part.ensures in
     search rules
 
 pub loop-done-preserved : goal.loop-done-preserved
@@ -28,8 +30,10 @@ loop-done-preserved c =
     let next = tokens_view c.read_part.new.tokens in
     let whole = repeated (begins_part c.args.kind) (phrase_of c.args.kind) (size (tokens_view c.args.tokens.now)) (tokens_view c.args.tokens.now) in
     let is : n - l.done ≡ suc (n - (l.done + 1)) = omega arith in
-    repeated_more (begins_part c.args.kind) (phrase_of c.args.kind) whole (n - l.done) (n - (l.done + 1)) (map node_view l.parts.items) (node_view c.in_ok-part.part) (tokens_view l.tokens) next l.invariant is (sym c.begins.ensures ∙ c.if-not-begins.false) c.in_ok-part.ensures
-    ∙ ap (λ ns. after ns (repeated (begins_part c.args.kind) (phrase_of c.args.kind) (n - (l.done + 1)) next)) (nodes_more l.parts.items c.push.new.self.items c.in_ok-part.part c.in_ok-push.ensures.items)
+    repeated_more (begins_part c.args.kind) (phrase_of c.args.kind) whole (n - l.done) (n - (l.done + 1)) (map node_view l.parts.items) (node_view c.in_ok-part.part)
+    (tokens_view l.tokens) next l.invariant is (sym c.begins.ensures ∙ c.if-not-begins.false) c.in_ok-part.ensures
+    ∙ ap (λ ns. after ns (repeated (begins_part c.args.kind) (phrase_of c.args.kind) (n - (l.done + 1)) next))
+    (nodes_more l.parts.items c.push.new.self.items c.in_ok-part.part c.in_ok-push.ensures.items)
 
 pub returns : goal.returns
 returns c =

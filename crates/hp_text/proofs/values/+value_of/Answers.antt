@@ -26,8 +26,10 @@ pub returns-in-None : goal.returns-in-None
 returns-in-None t c =
     let nodes = c.in-List.nodes in
     let gives = c.into_iter-node-iterator.ensures.into_iter_gives in
-    let all = YieldsList-end (YieldsList-from_vec {s = c.into_iter-node-iterator.result} nodes.items gives.0 (gives.1 ∙ nodes.ok.0)) c.loop-node.yielded c.loop-node.node-iterator c.loop-node.yielded_by c.next.result c.next.new.self c.in-None.is c.next.ensures.steps in
+    let all = YieldsList-end (YieldsList-from_vec {s = c.into_iter-node-iterator.result} nodes.items gives.0 (gives.1 ∙ nodes.ok.0)) c.loop-node.yielded
+    c.loop-node.node-iterator c.loop-node.yielded_by c.next.result c.next.new.self c.in-None.is c.next.ensures.steps in
     let yielded : c.loop-node.yielded ≡ nodes.items = sym (map-id c.loop-node.yielded) ∙ all.0 in
-    let items : items_of (map view c.loop-node.values.items) ≡ T.items_of (T.nodes (map node_view nodes.items)) = ap items_of (c.loop-node.invariant ∙ ap (map (λ n. T.data_of (node_view n))) yielded) ∙ same_items nodes.items in
+    let items : items_of (map view c.loop-node.values.items) ≡ T.items_of (T.nodes (map node_view nodes.items)) =
+    ap items_of (c.loop-node.invariant ∙ ap (map (λ n. T.data_of (node_view n))) yielded) ∙ same_items nodes.items in
     let node : node_view c.args.node ≡ T.list c.in-List.field-0 (T.nodes (map node_view nodes.items)) = ap node_view c.in-List.is ∙ list_view c.in-List.field-0 nodes in
     array_view c.loop-node.values ∙ ap array items ∙ ap T.data_of (sym node)

@@ -14,7 +14,8 @@ pub invariant_of-self : goal.invariant_of-self
 invariant_of-self g c =
     let old = c.args.self.now in
     let x = value_of _ c.requires in
-    settles_whole c.self.inside _ c.self.view_is c.self.invariant _ Accepted x.0 (posted_is old.posted (length old.settled) x.0 x.1) refl c.push_reserved.new.self c.push_reserved.ensures.items c.push_reserved.ensures.capacity
+    settles_whole c.self.inside _ c.self.view_is c.self.invariant _ Accepted x.0 (posted_is old.posted (length old.settled) x.0 x.1) refl c.push_reserved.new.self
+    c.push_reserved.ensures.items c.push_reserved.ensures.capacity
 
 pub returns : goal.returns
 returns g c =

@@ -9,7 +9,8 @@ push_reserved-requires g c = has_room c.self.inside _ c.self.view_is c.self.inva
 
 pub invariant_of-self : goal.invariant_of-self
 invariant_of-self g c =
-    settles_whole c.self.inside _ c.self.view_is c.self.invariant _ _ c.args.layer (slice_get-get_or _ _ None c.requires) refl c.push_reserved.new.self c.push_reserved.ensures.items c.push_reserved.ensures.capacity
+    settles_whole c.self.inside _ c.self.view_is c.self.invariant _ _ c.args.layer (slice_get-get_or _ _ None c.requires) refl c.push_reserved.new.self
+    c.push_reserved.ensures.items c.push_reserved.ensures.capacity
 
 pub returns : goal.returns
 returns g c = settles_view c.self.inside _ c.self.view_is c.self.invariant _ _ _ (slice_get-get_or _ _ None c.requires) refl c.push_reserved.new.self c.push_reserved.ensures.items

@@ -26,13 +26,17 @@ pub returns-in-Draw : goal.returns-in-Draw
 returns-in-Draw g c base changes = draw_lands c.args.self.now c.args.event c.is_enabled.result c.is_enabled.ensures c.if-not-is_enabled.false c.draw.new.self base changes _ c.in-Draw.is c.draw.ensures
 
 pub returns-in-Look : goal.returns-in-Look
-returns-in-Look g c base changes = look_lands c.args.self.now c.args.event c.is_enabled.result c.is_enabled.ensures c.if-not-is_enabled.false c.look.new.self base changes _ _ _ c.in-Look.is c.look.ensures
+returns-in-Look g c base changes = look_lands c.args.self.now c.args.event c.is_enabled.result c.is_enabled.ensures c.if-not-is_enabled.false c.look.new.self
+    base changes _ _ _ c.in-Look.is c.look.ensures
 
 pub returns-in-Post : goal.returns-in-Post
-returns-in-Post g c base changes = post_lands c.args.self.now c.args.event c.is_enabled.result c.is_enabled.ensures c.if-not-is_enabled.false c.post.new.self base changes _ _ _ c.in-Post.is c.post.ensures
+returns-in-Post g c base changes = post_lands c.args.self.now c.args.event c.is_enabled.result c.is_enabled.ensures c.if-not-is_enabled.false c.post.new.self
+    base changes _ _ _ c.in-Post.is c.post.ensures
 
 pub returns-in-Accept : goal.returns-in-Accept
-returns-in-Accept g c base changes = accept_lands c.args.self.now c.args.event c.is_enabled.result c.is_enabled.ensures c.if-not-is_enabled.false c.accept.new.self base changes _ c.in-Accept.is c.accept.ensures
+returns-in-Accept g c base changes = accept_lands c.args.self.now c.args.event c.is_enabled.result c.is_enabled.ensures c.if-not-is_enabled.false
+    c.accept.new.self base changes _ c.in-Accept.is c.accept.ensures
 
 pub returns-in-Rerun : goal.returns-in-Rerun
-returns-in-Rerun g c base changes = rerun_lands c.args.self.now c.args.event c.is_enabled.result c.is_enabled.ensures c.if-not-is_enabled.false c.rerun.new.self base changes _ _ c.in-Rerun.is c.rerun.ensures
+returns-in-Rerun g c base changes = rerun_lands c.args.self.now c.args.event c.is_enabled.result c.is_enabled.ensures c.if-not-is_enabled.false c.rerun.new.self
+    base changes _ _ c.in-Rerun.is c.rerun.ensures

@@ -34,11 +34,13 @@ returns-in_default-clause-learns c = λ past knows.
 pub returns-clause-answers : goal.returns-clause-answers
 returns-clause-answers c = λ past knows.
     let known_is : known c.in-Some.kept.value ≡ knowledge c.args.self.now.event past = search rules in
-    let step_is : (option_map occurrence c.in_ok-next.next.occurrence, known c.in_ok-next.next.known.value) ≡ stepped c.args.self.now.event (known c.in-Some.kept.value) (primitive c.args.prim.now) = search rules in
+    let step_is : (option_map occurrence c.in_ok-next.next.occurrence, known c.in_ok-next.next.known.value) ≡ stepped c.args.self.now.event (known c.in-Some.kept.value)
+    (primitive c.args.prim.now) = search rules in
     ap (λ r. r.0) (step_is ∙ stepped_lem _ _ _ past known_is)
 
 pub returns-clause-learns : goal.returns-clause-learns
 returns-clause-learns c = λ past knows.
     let known_is : known c.in-Some.kept.value ≡ knowledge (event c.self.inside.expr.value) past = search rules in
-    let step_is : (option_map occurrence c.in_ok-next.next.occurrence, known c.in_ok-next.next.known.value) ≡ stepped (event c.self.inside.expr.value) (known c.in-Some.kept.value) (primitive c.args.prim.now) = search rules in
+    let step_is : (option_map occurrence c.in_ok-next.next.occurrence, known c.in_ok-next.next.known.value) ≡ stepped (event c.self.inside.expr.value)
+    (known c.in-Some.kept.value) (primitive c.args.prim.now) = search rules in
     ap (λ r. r.1) (step_is ∙ stepped_lem _ _ _ past known_is)

@@ -9,7 +9,8 @@ use Rattle.hp_detect.proofs.detector.DetectorPartialEq.eq.Goals as goal
 tested_then : (c : goal.After-eq-then-eq) → c.eq-then-eq.result ≡ detector_same c.args.self.now c.args.other.now
 tested_then c =
     let one_event : event_same (event c.self.inside.expr.value) (event c.other.inside.expr.value) ≡ true = search rules in
-    let here : c.eq-then-eq.result ≡ detector_same (record { event = event c.self.inside.expr.value; known = known_of (event c.self.inside.expr.value) c.self.inside.kept }) (record { event = event c.other.inside.expr.value; known = known_of (event c.other.inside.expr.value) c.other.inside.kept }) =
+    let here : c.eq-then-eq.result ≡ detector_same (record { event = event c.self.inside.expr.value; known = known_of (event c.self.inside.expr.value) c.self.inside.kept })
+    (record { event = event c.other.inside.expr.value; known = known_of (event c.other.inside.expr.value) c.other.inside.kept }) =
     both_true (event_same (event c.self.inside.expr.value) (event c.other.inside.expr.value)) _ _ one_event
     (c.eq-then-eq.ensures ∙ kept_same (event c.self.inside.expr.value) (event c.other.inside.expr.value) c.self.inside.kept c.other.inside.kept c.self.invariant c.other.invariant one_event) in
     search rules

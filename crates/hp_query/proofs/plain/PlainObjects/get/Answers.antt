@@ -5,4 +5,5 @@ use Rattle.hp_query.proofs.PlainLemmas.{found_in}
 use Rattle.hp_query.proofs.plain.PlainObjects.get.Goals as goal
 
 pub returns : goal.returns
-returns c = c.get.ensures.value ∙ found_in c.self.inside.rows.entries c.args.class c.args.key _ (to_z-of_z w64 c.args.key c.ranges.key) ∙ ap (λ objects. find_object objects c.args.class c.args.key) c.self.view_is
+returns c = c.get.ensures.value ∙ found_in c.self.inside.rows.entries c.args.class c.args.key _ (to_z-of_z w64 c.args.key c.ranges.key)
+    ∙ ap (λ objects. find_object objects c.args.class c.args.key) c.self.view_is

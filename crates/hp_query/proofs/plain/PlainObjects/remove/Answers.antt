@@ -9,8 +9,10 @@ pub invariant_of-self : goal.invariant_of-self
 invariant_of-self c = subst KeysFit (sym c.remove.ensures.entries) (KeysFit-remove c.self.inside.rows.entries _ c.self.invariant)
 
 pub returns-clause-row : goal.returns-clause-row
-returns-clause-row c = c.remove.ensures.value ∙ found_in c.self.inside.rows.entries c.args.class c.args.key _ (to_z-of_z w64 c.args.key c.ranges.key) ∙ ap (λ objects. find_object objects c.args.class c.args.key) c.self.view_is
+returns-clause-row c = c.remove.ensures.value ∙ found_in c.self.inside.rows.entries c.args.class c.args.key _ (to_z-of_z w64 c.args.key c.ranges.key)
+    ∙ ap (λ objects. find_object objects c.args.class c.args.key) c.self.view_is
 
 pub returns-clause-others : goal.returns-clause-others
 returns-clause-others c =
-    ap objects_in c.remove.ensures.entries ∙ removed_in c.self.inside.rows.entries c.args.class c.args.key _ (to_z-of_z w64 c.args.key c.ranges.key) ∙ ap (λ objects. remove_object objects c.args.class c.args.key) c.self.view_is
+    ap objects_in c.remove.ensures.entries ∙ removed_in c.self.inside.rows.entries c.args.class c.args.key _ (to_z-of_z w64 c.args.key c.ranges.key)
+    ∙ ap (λ objects. remove_object objects c.args.class c.args.key) c.self.view_is

@@ -2,6 +2,7 @@ use Rattle.std.proofs.Common.{Err, map, drop, sym, ◌∙◌, ap, subst, ◌+◌
 use Rattle.std.proofs.lemmas.Result.{err_from_is_err_and}
 use Rattle.hp_model.specs.Conditions.{merged}
 use Rattle.hp_value.specs.Mapped.{Meets, keyed_row, environment, expression, value}
+use Rattle.hp_query.specs.Candidates.{tested}
 use Rattle.hp_query.specs.Mapped.{merge}
 use Rattle.hp_query.proofs.SelectLemmas.{next_left}
 use Rattle.hp_query.proofs.TermLemmas.{merged_first, merged_halt}
@@ -11,7 +12,7 @@ pub returns-in_err-so_far : goal.returns-in_err-so_far
 returns-in_err-so_far c =
     let asked = c.args.self.now.asked in
     let env = environment asked.env.now in
-    let predicate = expression asked.predicate.now in
+    let predicate = tested c.args.are_selected (expression asked.predicate.now) in
     let term = expression c.args.self.now.term.now in
     let how = merge c.args.self.now.merge in
     let object = c.object-item.result in
@@ -25,7 +26,7 @@ pub loop-object-preserved : goal.loop-object-preserved
 loop-object-preserved c =
     let asked = c.args.self.now.asked in
     let env = environment asked.env.now in
-    let predicate = expression asked.predicate.now in
+    let predicate = tested c.args.are_selected (expression asked.predicate.now) in
     let term = expression c.args.self.now.term.now in
     let how = merge c.args.self.now.merge in
     let object = c.object-item.result in

@@ -29,5 +29,6 @@ returns-in_ok-put_ending-in-Act c =
     let mode = coupling_word (model.coupling c.in-Act.place) in
     let end = model.ending c.args.end.now in
     let first : string_bytes c.write-in-Act.new.self ≡ string_bytes c.args.out.now ++ (codes "act" ++ 32 ∷ (name ++ 32 ∷ mode)) = search rules in
-    three_words_put (codes "act") name mode (ending_words library end) (string_bytes c.args.out.now) (string_bytes c.write-in-Act.new.self) (string_bytes c.put_ending-in-Act.new.out) first c.in_ok-put_ending-in-Act.ensures
+    three_words_put (codes "act") name mode (ending_words library end) (string_bytes c.args.out.now) (string_bytes c.write-in-Act.new.self)
+    (string_bytes c.put_ending-in-Act.new.out) first c.in_ok-put_ending-in-Act.ensures
     ∙ ap (λ w. string_bytes c.args.out.now ++ words (node_words library (model.what w) end)) (sym c.in-Act.is)

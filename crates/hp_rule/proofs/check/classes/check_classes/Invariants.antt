@@ -6,4 +6,5 @@ use Rattle.hp_rule.proofs.check.classes.check_classes.Given as goal
 
 abbrev pub invariant-loop-i : goal.invariant-loop-i
 invariant-loop-i l =
-    each_check class_definition_check (steps l.place) (map class_def (take l.i l.classes)) l.i (map class_def (drop l.i l.classes)) ≡ each_check class_definition_check (steps l.place) [] 0 (map class_def l.classes)
+    each_check class_definition_check (steps l.place) (map class_def (take l.i l.classes)) l.i (map class_def (drop l.i l.classes)) ≡ each_check
+    class_definition_check (steps l.place) [] 0 (map class_def l.classes)

@@ -18,6 +18,7 @@ loop-key-preserved c =
     record {
       same = c.enter.ensures.same.0 ∙ c.loop-key.invariant.same;
       so_far =
-          enters_more c.loop-key.self c.enter.new.self c.args.table.now.entries c.loop-key.key-iterator c.next.new.self c.in-Some.key.now c.in-Some.value.now c.in-Some.ensures.steps c.enter.ensures.kept
+          enters_more c.loop-key.self c.enter.new.self c.args.table.now.entries c.loop-key.key-iterator c.next.new.self c.in-Some.key.now c.in-Some.value.now
+          c.in-Some.ensures.steps c.enter.ensures.kept
           (subst (λ k. IsIn c.enter.new.self k (Some (cell_value c.in-Some.value.now))) key (c.enter.ensures.entered c.if-not-enter.false)) c.loop-key.invariant.so_far;
     }

@@ -34,5 +34,6 @@ loop-cell-preserved c =
 pub returns : goal.returns
 returns c = λ base.
     keys_found base c.args.class c.args.keys.items c.extend_from_slice-2.new.self.items c.args.self.now
-    (merges_last _ c.loop-cell.merged.items c.loop-cell.rest.now c.extend_from_slice-2.new.self.items c.loop-cell.cell-iterator c.loop-cell.invariant c.in-None.ensures.steps.0 c.in_ok-extend_from_slice-2.ensures.items)
+    (merges_last _ c.loop-cell.merged.items c.loop-cell.rest.now c.extend_from_slice-2.new.self.items c.loop-cell.cell-iterator c.loop-cell.invariant
+    c.in-None.ensures.steps.0 c.in_ok-extend_from_slice-2.ensures.items)
     c.of_class-cell-items.ensures.rise

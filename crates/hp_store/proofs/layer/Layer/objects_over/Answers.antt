@@ -20,12 +20,15 @@ loop-cell-init c = record {
 pub loop-cell-preserved-in-Object : goal.loop-cell-preserved-in-Object
 loop-cell-preserved-in-Object c =
     let done : c.in_ok-add_changed.field-0 ≡ true = search rules in
-    let made = subst (λ os. MakesObjects os (to_z w64 (of_z w64 c.in-Object.key)) (change c.in-Some.change.now) c.add_changed.new.list) c.in_ok-extend.ensures (c.in_ok-add_changed.ensures.made done) in
+    let made = subst (λ os. MakesObjects os (to_z w64 (of_z w64 c.in-Object.key)) (change c.in-Some.change.now) c.add_changed.new.list) c.in_ok-extend.ensures
+    (c.in_ok-add_changed.ensures.made done) in
     record {
       within = c.places-end.ensures.bound;
       walks = λ base are.
-          walks_on base c.args.class c.args.objects.now c.args.self.now c.loop-cell.merged c.loop-cell.from c.loop-cell.cell-iterator c.next.new.self c.in-Some.cell.now c.in-Some.change.now c.in-Object.field-0 c.in-Object.key
-          (c.loop-cell.invariant.walks base are) c.in-Some.ensures.steps c.in-Object.is c.keys-keys.result.now (c.places-end.result.0 - c.loop-cell.from) c.places-end.result.1 c.add_changed.new.list c.keys-keys.ensures
+          walks_on base c.args.class c.args.objects.now c.args.self.now c.loop-cell.merged c.loop-cell.from c.loop-cell.cell-iterator c.next.new.self
+          c.in-Some.cell.now c.in-Some.change.now c.in-Object.field-0 c.in-Object.key
+          (c.loop-cell.invariant.walks base are) c.in-Some.ensures.steps c.in-Object.is c.keys-keys.result.now (c.places-end.result.0 - c.loop-cell.from)
+          c.places-end.result.1 c.add_changed.new.list c.keys-keys.ensures
           c.places-end.ensures.below c.places-end.ensures.above made;
       tells = tells_next c.args.class c.args.self.now c.loop-cell.cell-iterator c.next.new.self c.in-Some.cell.now c.in-Some.change.now c.loop-cell.invariant.tells c.in-Some.ensures.steps;
     }
@@ -43,7 +46,9 @@ pub returns-clause-merged : goal.returns-clause-merged
 returns-clause-merged c = λ base are.
     let objects = c.args.objects.now in
     let last : c.extend-2.new.self ≡ c.loop-cell.merged ++ drop c.loop-cell.from objects =
-    c.in_ok-extend-2.ensures ∙ ap (λ n. c.loop-cell.merged ++ take (n - c.loop-cell.from) (drop c.loop-cell.from objects)) (ap length c.keys-keys.ensures ∙ length-map objects (λ (o : model.KeyedRow). o.key))
+    c.in_ok-extend-2.ensures ∙ ap (λ n. c.loop-cell.merged ++ take (n - c.loop-cell.from) (drop c.loop-cell.from objects)) (ap length c.keys-keys.ensures
+    ∙ length-map objects (λ (o : model.KeyedRow). o.key))
     ∙ ap (λ l. c.loop-cell.merged ++ l) (take_rest objects c.loop-cell.from) in
-    walks_last base c.args.class objects c.loop-cell.merged c.extend-2.new.self c.args.self.now c.loop-cell.from c.loop-cell.cell-iterator c.of_class-cell-items.ensures.rise c.in-None.ensures.steps.0 last are
+    walks_last base c.args.class objects c.loop-cell.merged c.extend-2.new.self c.args.self.now c.loop-cell.from c.loop-cell.cell-iterator c.of_class-cell-items.ensures.rise
+    c.in-None.ensures.steps.0 last are
     (c.loop-cell.invariant.walks base are)

@@ -25,9 +25,11 @@ returns-clause-covers c = λ holds.
     (agree_covers test part c.args.class (base_cells c.deref.result.now) (keys_left c.candidates-keys.result) c.agrees_on.result c.agrees_on.ensures
     (c.candidates-keys.ensures (complete_shared c.self.inside.base.value c.deref.result.now c.deref.ensures c.self.invariant.2)) c.if-not-agrees_on.false))
     (subst (λ (ls : List Entries). Covers test part c.args.class (over no_cells (changes_in ls))) c.deref-2.ensures (c.agrees_on_layers.ensures.covers c.if-not-agrees_on_layers.false))
-    (agree_covers test part c.args.class (over no_cells (changes c.args.writes.now)) (keys_left c.candidates-written.result) c.agrees_on-2.result c.agrees_on-2.ensures c.candidates-written.ensures holds)
+    (agree_covers test part c.args.class (over no_cells (changes c.args.writes.now)) (keys_left c.candidates-written.result) c.agrees_on-2.result
+    c.agrees_on-2.ensures c.candidates-written.ensures holds)
 
 pub returns-clause-always : goal.returns-clause-always
 returns-clause-always c = λ each.
     c.agrees_on-2.ensures
-    ∙ all_pass (agrees_at (over (cells_in c.args.self.now) (changes c.args.writes.now)) (class_part c.args.part.now) c.args.class (keys_of (map keyed_row c.args.objects.now))) (keys_left c.candidates-written.result) each
+    ∙ all_pass (agrees_at (over (cells_in c.args.self.now) (changes c.args.writes.now)) (class_part c.args.part.now) c.args.class (keys_of (map keyed_row c.args.objects.now)))
+    (keys_left c.candidates-written.result) each

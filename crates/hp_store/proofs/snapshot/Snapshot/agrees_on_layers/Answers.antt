@@ -13,7 +13,8 @@ pub loop-shared-preserved : goal.loop-shared-preserved
 loop-shared-preserved c =
     let test = agrees_at (over (cells_in c.args.self.now) (changes c.args.writes.now)) (class_part c.args.part.now) c.args.class (keys_of (map keyed_row c.args.objects.now)) in
     covers_more test (class_part c.args.part.now) c.args.class c.args.layers.now c.loop-shared.shared-index c.shared-item.result c.loop-shared-test.true c.shared-item.is c.loop-shared.invariant
-    (agree_covers test (class_part c.args.part.now) c.args.class (over no_cells (changes c.shared-item.result)) (keys_left c.candidates-keys.result) c.agrees_on.result c.agrees_on.ensures c.candidates-keys.ensures
+    (agree_covers test (class_part c.args.part.now) c.args.class (over no_cells (changes c.shared-item.result)) (keys_left c.candidates-keys.result)
+    c.agrees_on.result c.agrees_on.ensures c.candidates-keys.ensures
     c.if-not-agrees_on.false)
 
 pub returns-then-not-agrees_on-clause-always : goal.returns-then-not-agrees_on-clause-always

@@ -8,4 +8,5 @@ use Rattle.hp_store.proofs.snapshot.Snapshot.agrees_on_layers.Given as goal
 
 abbrev pub invariant-loop-shared : goal.invariant-loop-shared
 invariant-loop-shared l =
-    Covers (agrees_at (over (cells_in l.self) (changes l.writes)) (class_part l.part) l.class (keys_of (map keyed_row l.objects))) (class_part l.part) l.class (over no_cells (changes_in (take l.shared-index l.layers)))
+    Covers (agrees_at (over (cells_in l.self) (changes l.writes)) (class_part l.part) l.class (keys_of (map keyed_row l.objects))) (class_part l.part)
+    l.class (over no_cells (changes_in (take l.shared-index l.layers)))

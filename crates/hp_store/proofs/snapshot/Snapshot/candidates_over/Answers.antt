@@ -10,8 +10,8 @@ use Rattle.hp_store.proofs.Indexed.{complete_shared}
 use Rattle.hp_store.proofs.Picked.{covers_wider, not_before, not_after}
 use Rattle.hp_store.proofs.snapshot.Snapshot.candidates_over.Goals as goal
 
-pub returns : goal.returns
-returns c =
+pub returns-clause-covers : goal.returns-clause-covers
+returns-clause-covers c =
     let part = class_part c.args.part.now in
     let class = c.args.class in
     let first = c.add.new.keys.items in
@@ -19,13 +19,13 @@ returns c =
     let all = c.add-2.new.keys.items in
     covers_each (is_among all) part class c.self.inside.base.value c.self.inside.layers.items c.args.self.now c.args.writes.now c.self.view_is
     (subst (λ (b : Base). Covers (is_among all) part class (base_cells b)) c.deref.ensures
-    (covers_wider (is_among (keys_left c.candidates.result)) (is_among all) part class (base_cells c.deref.result.now)
+    (covers_wider (is_among (keys_left c.in-Some.found)) (is_among all) part class (base_cells c.deref.result.now)
     (λ key out.
-    not_after c.new-keys.result.items (keys_left c.candidates.result) first c.in_ok-add.ensures key
-    (c.in_ok-add_layers.ensures.kept key (not_before second (keys_left c.candidates-2.result) all c.in_ok-add-2.ensures key out)))
-    (c.candidates.ensures (complete_shared c.self.inside.base.value c.deref.result.now c.deref.ensures c.self.invariant.2))))
+    not_after c.new-keys.result.items (keys_left c.in-Some.found) first c.in_ok-add.ensures key
+    (c.in_ok-add_layers.ensures.kept key (not_before second (keys_left c.candidates.result) all c.in_ok-add-2.ensures key out)))
+    (c.in-Some.ensures.covers (complete_shared c.self.inside.base.value c.deref.result.now c.deref.ensures c.self.invariant.2))))
     (subst (λ (ls : List Entries). Covers (is_among all) part class (over no_cells (changes_in ls))) c.deref-2.ensures
-    (covers_wider (is_among second) (is_among all) part class (over no_cells (changes_in c.deref-2.result.now)) (not_before second (keys_left c.candidates-2.result) all c.in_ok-add-2.ensures)
+    (covers_wider (is_among second) (is_among all) part class (over no_cells (changes_in c.deref-2.result.now)) (not_before second (keys_left c.candidates.result) all c.in_ok-add-2.ensures)
     c.in_ok-add_layers.ensures.covers))
-    (covers_wider (is_among (keys_left c.candidates-2.result)) (is_among all) part class (over no_cells (changes c.args.writes.now))
-    (not_after second (keys_left c.candidates-2.result) all c.in_ok-add-2.ensures) c.candidates-2.ensures)
+    (covers_wider (is_among (keys_left c.candidates.result)) (is_among all) part class (over no_cells (changes c.args.writes.now))
+    (not_after second (keys_left c.candidates.result) all c.in_ok-add-2.ensures) c.candidates.ensures)

@@ -13,4 +13,5 @@ returns-then-shows_each c =
 
 pub returns-else-shows_each : goal.returns-else-shows_each
 returns-else-shows_each c =
-    agreed_missing (over (cells_in c.args.self.now) (changes c.args.writes.now)) (class_part c.args.part.now) c.args.class c.args.objects.now c.shows_each.result c.if-shows_each.false c.shows_each.ensures
+    agreed_missing (over (cells_in c.args.self.now) (changes c.args.writes.now)) (class_part c.args.part.now) c.args.class c.args.objects.now c.shows_each.result
+    c.if-shows_each.false c.shows_each.ensures

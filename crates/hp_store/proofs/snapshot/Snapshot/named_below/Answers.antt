@@ -13,7 +13,8 @@ returns-clause-above c =
     let bound = c.args.bound in
     let base = c.greatest_below.result in
     let named = c.greatest_in.result in
-    none_named c.self.inside.base.value c.self.inside.layers.items c.args.self.now c.args.writes.now class bound base named c.greater-under.result c.greatest_below-2.result c.greater.result c.self.view_is
+    none_named c.self.inside.base.value c.self.inside.layers.items c.args.self.now c.args.writes.now class bound base named c.greater-under.result
+    c.greatest_below-2.result c.greater.result c.self.view_is
     (subst (λ (b : Base). (key : ℤ) → is_below bound key ≡ true → is_above base key ≡ true → base_cells b (object_cell class key) ≡ None) c.deref.ensures c.greatest_below.ensures.above)
     (subst (λ (ls : List Entries). NamesNone (changes_in ls) class bound named) c.deref-2.ensures c.greatest_in.ensures.above)
     c.greatest_below-2.ensures.above c.greater-under.ensures.first c.greater-under.ensures.second c.greater.ensures.first c.greater.ensures.second

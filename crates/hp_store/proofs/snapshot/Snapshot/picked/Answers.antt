@@ -17,9 +17,11 @@ pub loop-key-preserved : goal.loop-key-preserved
 loop-key-preserved c =
     let fits : FitsSigned w64 (get_or c.args.keys.now c.loop-key.key-index (pos 0)) = search rules in
     picks_step (over (cells_in c.args.self.now) (changes c.args.writes.now)) (class_part c.args.part.now) c.args.class c.args.keys.now c.loop-key.key-index _ (map keyed_row c.loop-key.objects.items)
-    (map keyed_row c.add_member.new.objects.items) c.in-Ok.member c.loop-key-test.true (to_z-of_z w64 _ fits) (member_told _ c.in-Ok.is c.in_ok-tested.ensures.member) c.in_ok-add_member.ensures c.loop-key.invariant
+    (map keyed_row c.add_member.new.objects.items) c.in-Ok.member c.loop-key-test.true (to_z-of_z w64 _ fits) (member_told _ c.in-Ok.is c.in_ok-tested.ensures.member)
+    c.in_ok-add_member.ensures c.loop-key.invariant
 
 pub returns-clause-part : goal.returns-clause-part
 returns-clause-part c =
-    picks_all (over (cells_in c.args.self.now) (changes c.args.writes.now)) (class_part c.args.part.now) c.args.class (drop c.loop-key.key-index c.args.keys.now) (map keyed_row c.loop-key.objects.items)
+    picks_all (over (cells_in c.args.self.now) (changes c.args.writes.now)) (class_part c.args.part.now) c.args.class (drop c.loop-key.key-index c.args.keys.now)
+    (map keyed_row c.loop-key.objects.items)
     (drop_all c.loop-key.key-index c.args.keys.now (omega (arith, c.loop-key-test.false))) c.loop-key.invariant

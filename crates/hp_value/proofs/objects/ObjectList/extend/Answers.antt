@@ -19,7 +19,8 @@ add-requires c = λ alike.
     let ns = first_names c.args.other.now in
     named_alike ns (c.loop-object.self ++ keyed_row c.in_ok-clone.field-0 ∷ [])
     (named_push ns c.loop-object.self (keyed_row c.in_ok-clone.field-0) (c.loop-object.invariant.alike alike)
-    (ap (λ k. names_of k.row) c.in_ok-clone.ensures.cases ∙ named_at ns _ c.loop-object.object-index c.object-item.result c.loop-object-test.true c.object-item.is (c.loop-object.invariant.part alike)))
+    (ap (λ k. names_of k.row) c.in_ok-clone.ensures.cases ∙ named_at ns _ c.loop-object.object-index c.object-item.result c.loop-object-test.true
+    c.object-item.is (c.loop-object.invariant.part alike)))
 
 pub loop-object-preserved : goal.loop-object-preserved
 loop-object-preserved c =
@@ -27,7 +28,8 @@ loop-object-preserved c =
     let items : List KeyedRow = take (c.args.end - c.args.start) (drop c.args.start c.deref.result.now) in
     let pushed : c.add.new.self ≡ c.loop-object.self ++ keyed_row c.object-item.result ∷ [] = c.in_ok-add.ensures.ok ∙ ap (λ k. c.loop-object.self ++ k ∷ []) c.in_ok-clone.ensures.cases in
     record {
-      so_far = extended c.args.self.now c.loop-object.self c.add.new.self items c.loop-object.object-index c.object-item.result c.loop-object-test.true c.object-item.is c.loop-object.invariant.so_far pushed;
+      so_far = extended c.args.self.now c.loop-object.self c.add.new.self items c.loop-object.object-index c.object-item.result c.loop-object-test.true
+          c.object-item.is c.loop-object.invariant.so_far pushed;
       part = c.loop-object.invariant.part;
       alike = λ alike.
           subst (AreNamed ns) (sym pushed)
@@ -37,5 +39,6 @@ loop-object-preserved c =
 
 pub returns : goal.returns
 returns c =
-    extended_all c.args.self.now c.loop-object.self c.args.other.now c.deref.result.now (take (c.args.end - c.args.start) (drop c.args.start c.deref.result.now)) c.args.start (c.args.end - c.args.start)
+    extended_all c.args.self.now c.loop-object.self c.args.other.now c.deref.result.now (take (c.args.end - c.args.start) (drop c.args.start c.deref.result.now))
+    c.args.start (c.args.end - c.args.start)
     c.loop-object.object-index (ap (map keyed_row) c.deref.ensures.value ∙ c.other.view_is) refl (omega (arith, c.loop-object-test.false)) c.loop-object.invariant.so_far

@@ -15,7 +15,8 @@ pub returns-then-is_some-clause-shows : goal.returns-then-is_some-clause-shows
 returns-then-is_some-clause-shows c =
     let again = sym c.is_some.ensures ∙ c.if-is_some.true in
     let found = some_told c.keys.result c.keys.ensures.held again in
-    shows_greatest_again c.args.class found.0.now c.args.greatest c.self.view_is c.self.invariant.held (found.1 (cells_in c.self.inside.base) c.self.invariant.held) (sym c.keys.ensures.known ∙ again) c.requires
+    shows_greatest_again c.args.class found.0.now c.args.greatest c.self.view_is c.self.invariant.held (found.1 (cells_in c.self.inside.base) c.self.invariant.held)
+    (sym c.keys.ensures.known ∙ again) c.requires
 
 pub returns-then-is_some-clause-reads_held : goal.returns-then-is_some-clause-reads_held
 returns-then-is_some-clause-reads_held c = holds_from c.self.view_is c.self.invariant.held

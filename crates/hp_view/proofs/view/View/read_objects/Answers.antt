@@ -36,16 +36,23 @@ returns-clause-cells c =
 
 pub returns-then-is_some-clause-reads : goal.returns-then-is_some-clause-reads
 returns-then-is_some-clause-reads c =
-    adds_whole (λ (o : Arc ObjectList Global). o.value) c.args.self.now c.whole_beneath.new.self c.args.class c.in_ok-whole_beneath.field-0 c.in_ok-whole_beneath.ensures.reads c.in_ok-whole_beneath.ensures.none
+    adds_whole (λ (o : Arc ObjectList Global). o.value) c.args.self.now c.whole_beneath.new.self c.args.class c.in_ok-whole_beneath.field-0
+    c.in_ok-whole_beneath.ensures.reads c.in_ok-whole_beneath.ensures.none
 
 pub returns-clause-reads : goal.returns-clause-reads
 returns-clause-reads c =
-    let whole = adds_whole (λ (o : Arc ObjectList Global). o.value) c.args.self.now c.whole_beneath.new.self c.args.class c.in_ok-whole_beneath.field-0 c.in_ok-whole_beneath.ensures.reads c.in_ok-whole_beneath.ensures.none in
-    let by_keys = adds_on c.keys.new.self c.args.class c.whole_beneath.ensures.only whole (adds_keys (IsOfClass (written c.whole_beneath.new.self) c.args.class) (λ keys. refl) c.in_ok-keys.ensures.reads) in
-    adds_on c.read_rows.new.self c.args.class (only_reads_then c.args.self.now c.whole_beneath.new.self c.keys.new.self c.whole_beneath.ensures.only c.keys.ensures.only) by_keys c.read_rows.ensures.reads
+    let whole = adds_whole (λ (o : Arc ObjectList Global). o.value) c.args.self.now c.whole_beneath.new.self c.args.class c.in_ok-whole_beneath.field-0
+    c.in_ok-whole_beneath.ensures.reads c.in_ok-whole_beneath.ensures.none in
+    let by_keys = adds_on c.keys.new.self c.args.class c.whole_beneath.ensures.only whole
+    (adds_keys (IsOfClass (written c.whole_beneath.new.self) c.args.class) (λ keys. refl) c.in_ok-keys.ensures.reads) in
+    adds_on c.read_rows.new.self c.args.class (only_reads_then c.args.self.now c.whole_beneath.new.self c.keys.new.self c.whole_beneath.ensures.only c.keys.ensures.only)
+    by_keys c.read_rows.ensures.reads
 
 pub returns-in_err-read_rows-clause-reads : goal.returns-in_err-read_rows-clause-reads
 returns-in_err-read_rows-clause-reads c =
-    let whole = adds_whole (λ (o : Arc ObjectList Global). o.value) c.args.self.now c.whole_beneath.new.self c.args.class c.in_ok-whole_beneath.field-0 c.in_ok-whole_beneath.ensures.reads c.in_ok-whole_beneath.ensures.none in
-    let by_keys = adds_on c.keys.new.self c.args.class c.whole_beneath.ensures.only whole (adds_keys (IsOfClass (written c.whole_beneath.new.self) c.args.class) (λ keys. refl) c.in_ok-keys.ensures.reads) in
-    adds_on c.read_rows.new.self c.args.class (only_reads_then c.args.self.now c.whole_beneath.new.self c.keys.new.self c.whole_beneath.ensures.only c.keys.ensures.only) by_keys c.read_rows.ensures.reads
+    let whole = adds_whole (λ (o : Arc ObjectList Global). o.value) c.args.self.now c.whole_beneath.new.self c.args.class c.in_ok-whole_beneath.field-0
+    c.in_ok-whole_beneath.ensures.reads c.in_ok-whole_beneath.ensures.none in
+    let by_keys = adds_on c.keys.new.self c.args.class c.whole_beneath.ensures.only whole
+    (adds_keys (IsOfClass (written c.whole_beneath.new.self) c.args.class) (λ keys. refl) c.in_ok-keys.ensures.reads) in
+    adds_on c.read_rows.new.self c.args.class (only_reads_then c.args.self.now c.whole_beneath.new.self c.keys.new.self c.whole_beneath.ensures.only c.keys.ensures.only)
+    by_keys c.read_rows.ensures.reads

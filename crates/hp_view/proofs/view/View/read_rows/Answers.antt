@@ -23,4 +23,5 @@ loop-key-preserved c =
 
 pub returns-clause-shows : goal.returns-clause-shows
 returns-clause-shows c =
-    subst (All (λ key. Shows c.loop-key.self (object_cell c.args.class key) (now_in c.args.self.now (object_cell c.args.class key)))) (take_all c.loop-key.key-index c.args.keys.now c.loop-key-test.false) c.loop-key.invariant.shows
+    subst (All (λ key. Shows c.loop-key.self (object_cell c.args.class key) (now_in c.args.self.now (object_cell c.args.class key))))
+    (take_all c.loop-key.key-index c.args.keys.now c.loop-key-test.false) c.loop-key.invariant.shows

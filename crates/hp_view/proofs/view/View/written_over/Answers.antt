@@ -14,7 +14,8 @@ returns-then-not-names_objects_of-clause-objects c = λ base are.
 
 pub returns-clause-objects : goal.returns-clause-objects
 returns-clause-objects c = λ base are.
-    let merged = told_some (λ objects. (cells : Cells) → AreObjects cells c.args.class c.deref-3.result.now → AreObjects (over cells (changes c.deref-2.result.now)) c.args.class objects) c.in-Some.is c.in_ok-objects.ensures.merged in
+    let merged = told_some (λ objects. (cells : Cells) → AreObjects cells c.args.class c.deref-3.result.now
+    → AreObjects (over cells (changes c.deref-2.result.now)) c.args.class objects) c.in-Some.is c.in_ok-objects.ensures.merged in
     subst (AreObjects (over base (written c.args.self.now)) c.args.class) (sym c.in_ok-new.ensures.ok)
     (subst (λ u. AreObjects (over base (written u)) c.args.class c.in-Some.objects) c.self.view_is
     (subst (λ es. AreObjects (over base (changes es)) c.args.class c.in-Some.objects) c.deref-2.ensures (merged base (subst (AreObjects base c.args.class) (sym c.deref-3.ensures) are))))

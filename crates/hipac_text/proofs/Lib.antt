@@ -1,0 +1,4 @@
+pub mod Longest
+pub mod Parsed
+pub mod TwoWords
+pub mod Written
