@@ -1,9 +1,10 @@
 -- Attempts that are accepted.
+use Rattle.std.proofs.Common.{◌||◌, true, true≢false, None, Some}
 use Rattle.std.proofs.Common.{◌≡◌, refl, sym, ap, ◌∙◌, subst, ℕ, ℤ, Option, List, [], ◌∷◌, ◌++◌, append-nil, length, take, drop, slice_index_or, inl, inr, ⊎_elim, arith}
-use Rattle.std.specs.Prelude.{Result, Ok, Err, OnOk, OnErr}
+use Rattle.std.specs.Prelude.{Result, Ok, Err, OnOk, OnErr, option_map}
 use Rattle.hp_model.specs.Rules.{Library}
 use Rattle.hp_model.specs.Tree.{Task}
-use Rattle.hp_model.specs.Values.{KeyedRow}
+use Rattle.hp_model.specs.Values.{KeyedRow, text}
 use Rattle.hp_model.specs.ClassParts.{ClassPart}
 use Rattle.hp_model.specs.Cells.{Cells, cells, Changes, object_cell, belongs_in, over, Read, cell_read, keys_read, greatest_read, count_read, objects_read, part_read, ReadHolds}
 use Rattle.hp_model.specs.Cells.{ReadsHold, Holds, AreKeys, IsGreatestKey, IsCount, AreObjects, ArePart}
@@ -17,14 +18,20 @@ use Rattle.hp_view.specs.Seeing.{ReadsGreatest, ReadsCountAlone, WritesUnread, R
 use Rattle.hp_view.specs.Looks.{only_reads_then}
 use Rattle.hp_view.proofs.Views.{GoesOn-then}
 use Rattle.hp_value.specs.declared.cell.Cell.{Cell as RustCell}
-use Rattle.hp_value.specs.Mapped.{cell}
+use Rattle.hp_value.specs.declared.class_part.Attribute.{Attribute as RustAttribute}
+use Rattle.hp_value.specs.declared.class_part.Attribute.TheVariants.{Key, Field as FieldNamed}
+use Rattle.hp_value.specs.declared.class_part.Bounds.{Bounds}
+use Rattle.hp_value.specs.declared.class_part.Bounds.TheVariants.{Numbers, Texts}
+use Rattle.hp_value.specs.declared.class_part.ClassPart.{ClassPart as RustPart}
+use Rattle.hp_value.specs.Mapped.{cell, attribute, low, high, class_part}
+use Rattle.hp_store.specs.Parts.{compares_keys, is_of_keys}
 use Rattle.hp_view.specs.declared.reads.Found.{Found}
 use Rattle.hp_view.specs.declared.reads.Seen.TheVariants.{Cell as OfCell}
 use Rattle.hp_view.specs.Mapped.{read}
 use Rattle.hp_view.specs.Adding.{AddsReads, IsOfClass, adds_then}
 use Rattle.hp_view.proofs.Adding.{adds_noted, adds_more, adds_keys}
 use Rattle.hp_model.specs.States.{States, LeadsToOne, IsSoundFor, FaithfulFiringFor}
-use Rattle.hp_attempt.specs.Holding.{IsReadAgain, IsFor, IsForAny, IsAccepted, Covers}
+use Rattle.hp_attempt.specs.Holding.{IsReadAgain, IsFor, IsForAny, IsAccepted, Covers, is_integer_bound, bounds_keys}
 
 -- ---- a view that only read
 
@@ -205,3 +212,20 @@ stands_settled a t layer {first} {read} {new} for same only covers takes states 
       subst (λ u. LeadsToOne states library (firing_answer (fire_task library S u)) (fire_task library S u).state a.answer (over base (written new))) for
       (subst (LeadsToOne states library (firing_answer (fire_task library S a.task)) (fire_task library S a.task).state a.answer) to (sound.from S one here));
 }
+
+-- ---- a part by keys
+
+no_integer : {A : Type 0} (l h : Option A) (text_of : A → List ℕ) → is_integer_bound (option_map (λ s. text (text_of s)) l) || is_integer_bound (option_map (λ s. text (text_of s)) h) ≡ true → ⊥
+no_integer None None text_of e = true≢false (sym e)
+no_integer None (Some y) text_of e = true≢false (sym e)
+no_integer (Some x) None text_of e = true≢false (sym e)
+no_integer (Some x) (Some y) text_of e = true≢false (sym e)
+
+keys_compared : (a : RustAttribute) (b : Bounds) → bounds_keys (record { attribute = attribute a; low = low b; high = high b }) ≡ true → compares_keys a b ≡ true
+keys_compared Key (Numbers l h) e = refl
+keys_compared Key (Texts l h) e = absurd (no_integer l h (λ s. s.now) e)
+keys_compared (FieldNamed f) b e = absurd (true≢false (sym e))
+
+-- one that has a bound is one of keys in Rust, too
+pub of_keys : (p : RustPart) (q : ClassPart) → class_part p ≡ q → bounds_keys q ≡ true → is_of_keys p ≡ true
+of_keys p q same e = keys_compared p.attribute p.bounds (ap bounds_keys same ∙ e)

@@ -1,10 +1,13 @@
 -- Reads that hold, and the first that doesn't.
-use Rattle.std.specs.Prelude.{◌≡◌, ℤ, true, List, [], ◌∷◌, ◌++◌, Some, None, is_some, ◌⊎◌}
+use Rattle.std.specs.Prelude.{◌≡◌, ◌&&◌, ◌||◌, ℤ, Bool, true, false, List, [], ◌∷◌, ◌++◌, Option, Some, None, is_some, ◌⊎◌}
+use Rattle.hp_model.specs.Values.{Value, integer}
+use Rattle.hp_model.specs.ClassParts.{ClassPart, key_attribute}
 use Rattle.hp_model.specs.Cells.{Cells, object_cell, Changes, over, Read, cell_read, keys_read, greatest_read, count_read, objects_read, part_read, ReadHolds, Holds}
 use Rattle.hp_value.specs.Mapped.{cell}
 use Rattle.hp_view.specs.declared.reads.Seen.{Seen}
 use Rattle.hp_view.specs.declared.reads.Seen.TheVariants.{Cell as OfCell, Keys as OfKeys, Greatest as OfGreatest, Count as OfCount, Part as OfPart}
 use Rattle.hp_store.specs.Changes.{Entries}
+use Rattle.hp_view.specs.Parts.{same_attribute}
 use Rattle.hp_view.specs.Adding.{AddsReads, IsOfClass}
 use Rattle.hp_view.specs.Seeing.{Seeing, beneath, written, now_in, OnlyReads, TakesIn}
 
@@ -56,6 +59,15 @@ IsFor layer (count_read n count) r = ⊥
 IsFor layer (objects_read n objects) r = IsOfClass layer n r
 IsFor layer (part_read n part objects) (part_read m p found) = (m ≡ n) × (p ≡ part)
 IsFor layer (part_read n part objects) r = IsOfClass layer n r
+
+-- a bound by an integer
+abbrev pub is_integer_bound : Option Value → Bool
+is_integer_bound (Some (integer z)) = true
+is_integer_bound v = false
+
+-- a part by keys that has a bound
+abbrev pub bounds_keys : ClassPart → Bool
+bounds_keys p = same_attribute p.attribute key_attribute && (is_integer_bound p.low || is_integer_bound p.high)
 
 -- one that may be added for any of them
 abbrev pub IsForAny : Changes → (tried : List Read) → Read → Type 0

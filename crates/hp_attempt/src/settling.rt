@@ -1,6 +1,6 @@
 //! How an attempt is accepted.
 
-ghost use Rattle.std.specs.Prelude.{◌≡◌, ◌↔◌, IsTrue, IsOk, IfOk, OnOk, OnErr};
+ghost use Rattle.std.specs.Prelude.{◌≡◌, ◌↔◌, true, false, IsTrue, IsOk, IfOk, OnOk, OnErr};
 ghost use Rattle.hp_model.specs.Rules.{Library};
 ghost use Rattle.hp_model.specs.Cells.{Holds, part_read};
 ghost use Rattle.hp_model.specs.Firing.{fire_task};
@@ -10,11 +10,13 @@ ghost use Rattle.hp_model.proofs.BridgesCells.{stacked};
 ghost use Rattle.hp_rule.specs.Mapped.{task as task_of};
 ghost use Rattle.hp_store.specs.Changes.{changes};
 ghost use Rattle.hp_view.specs.Mapped.{read, class_read, part_found, objects_found};
-ghost use Rattle.hp_view.specs.Adding.{AddsReads};
+ghost use Rattle.hp_view.specs.Adding.{AddsReads, IsOfPart};
+ghost use Rattle.hp_view.specs.Parts.{number_of};
 ghost use Rattle.hp_view.specs.Seeing.{beneath, now_in, written, IsSame, OnlyReads, ReadsMore, GoesOn, Restores};
+ghost use Rattle.hp_view.specs.Seeing.{number_was_read};
 ghost use Rattle.hp_attempt.specs.Mapped.{firing, attempt as attempt_of};
 ghost use Rattle.hp_attempt.specs.Fronts.{StandsFor};
-ghost use Rattle.hp_attempt.specs.Holding.{IsFor, IsForAny, IsReadAgain, IsAccepted, Covers};
+ghost use Rattle.hp_attempt.specs.Holding.{IsFor, IsForAny, IsReadAgain, IsAccepted, Covers, bounds_keys};
 
 use crate::holding::holds;
 use crate::outcome::Attempt;
@@ -167,6 +169,9 @@ fn read_part_again(
     ensures goes_on { GoesOn view.old view.new }
     ensures again { OnOk result (
         IsReadAgain view.old view.new (part_read class (part_found found.now) (objects_found found.now))) }
+    ensures alone { bounds_keys (part_found found.now) ≡ true →
+        number_was_read view.old.reads class (number_of (part_found found.now)) ≡ false →
+        AddsReads (IsOfPart class (part_found found.now)) view.old.reads view.new.reads }
 {
     if view.read_part(alloc, class, &found.part())? {
         return Ok(());

@@ -2,6 +2,7 @@
 
 ghost use Rattle.std.specs.Prelude.{◌≡◌, ◌↔◌, ◌∷◌, ◌++◌, true, Some, IsTrue, IfOk, OnOk, OnErr};
 ghost use Rattle.std.specs.Prelude.{map, option_map, option_to_list};
+ghost use Rattle.hp_model.specs.Cells.{detector_cell};
 ghost use Rattle.hp_model.specs.Events.{is_pure as model_is_pure, occurrence_of as model_occurrence};
 ghost use Rattle.hp_model.specs.Occurrences.{History};
 ghost use Rattle.hp_model.specs.Rules.{Library as ModelLibrary, rule_at};
@@ -12,8 +13,10 @@ ghost use Rattle.hp_detect.specs.Mapped.{event as event_of};
 ghost use Rattle.hp_store.specs.Mapped.{cell_value};
 ghost use Rattle.hp_rule.specs.declared.task.Task.{Task as AnyTask};
 ghost use Rattle.hp_rule.specs.Mapped.{library, rule as rule_of, task as task_of};
+ghost use Rattle.hp_view.specs.Adding.{AddsReads};
 ghost use Rattle.hp_view.specs.Seeing.{GoesOn, OnlyReads, ReadsMore};
 ghost use Rattle.hp_ops.specs.Performs.{status_of};
+ghost use Rattle.hp_ops.specs.Reading.{IsReadOf, IsReadOfRule, IsReadOfMentioned};
 ghost use Rattle.hp_ops.specs.Notified.{AllNotified, GoesOnePlace, Notified, NotifiedEnabled};
 ghost use Rattle.hp_ops.specs.Notified.{OnlySteps, Shares, StepsOn, condition_task};
 
@@ -59,6 +62,8 @@ pub(crate) fn notify_all(
     ensures depth { IfOk result (λ tasks. AreAt depth (map task_of tasks.items)) }
     ensures writes { OnlySteps view.old view.new }
     ensures err { OnErr result (ReadsMore view.old view.new) }
+    ensures reads { AddsReads (IsReadOfMentioned (library lib.now) (primitive prim.now))
+        view.old.reads view.new.reads }
     ensures goes_on { GoesOn view.old view.new }
 {
     let notice = Notice { prim, depth, time };
@@ -109,6 +114,7 @@ fn notify(
         Notified (library lib.now) notice.now.time (primitive notice.now.prim.now) number view.old view.new
         (option_map task_of heard.task) heard.next) }
     ensures depth { IfOk result (λ heard. (t : AnyTask) → heard.task ≡ Some t → t.depth ≡ notice.now.depth) }
+    ensures reads { AddsReads (IsReadOfRule number) view.old.reads view.new.reads }
     ensures only { OnlyReads view.old view.new }
     ensures goes_on { GoesOn view.old view.new }
 {
@@ -158,6 +164,7 @@ fn notify_enabled(
         rule_at lib number ≡ rule_of rule.now →
         NotifiedEnabled lib (primitive prim.now) number view.old view.new
         (option_map (λ a. occurrence_of a.value) r.0) r.1) }
+    ensures reads { AddsReads (IsReadOf (detector_cell number)) view.old.reads view.new.reads }
     ensures only { OnlyReads view.old view.new }
     ensures goes_on { GoesOn view.old view.new }
 {
@@ -213,6 +220,7 @@ fn step_detector(
     ensures steps { IfOk result (λ r.
         StepsOn (event_of event.now) (primitive prim.now) number view.new
         (option_map (λ a. occurrence_of a.value) r.0) r.1) }
+    ensures reads { AddsReads (IsReadOf (detector_cell number)) view.old.reads view.new.reads }
     ensures only { OnlyReads view.old view.new }
     ensures goes_on { GoesOn view.old view.new }
 {

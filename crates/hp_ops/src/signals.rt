@@ -7,7 +7,7 @@ ghost use Rattle.hp_value.specs.Mapped.{occurrence as occurrence_of, primitive};
 ghost use Rattle.hp_rule.specs.Mapped.{library};
 ghost use Rattle.hp_view.specs.Adding.{AddsReads};
 ghost use Rattle.hp_view.specs.Seeing.{GoesOn, OnlyReads};
-ghost use Rattle.hp_ops.specs.Reading.{IsReadOf};
+ghost use Rattle.hp_ops.specs.Reading.{IsReadOf, IsReadOfMentioned};
 ghost use Rattle.hp_ops.specs.Triggers.{Triggers, Fires};
 
 use crate::finding::find_status;
@@ -22,6 +22,8 @@ use std::sync::Arc;
 /// Signals an occurrence in a transaction of depth `depth`, at the moment `time` of the clock: steps the detectors of
 /// the enabled rules that it concerns. The answer is the tasks of those whose event occurs, in rule order.
 ///
+/// Nothing is read but the statuses and detectors of rules whose event has a pattern that matches the occurrence.
+///
 /// `Depth` means that a rule is triggered whose firing would exceed the depth limit. `Memory` means that memory ran
 /// out: nothing is then written, and no detector is stepped.
 pub fn trigger(
@@ -33,6 +35,8 @@ pub fn trigger(
     time: u64,
 ) -> Result<Vec<Task>, Halt>
     ensures triggers { Triggers (library lib.now) time depth (primitive prim.now) view.old view.new result }
+    ensures reads { AddsReads (IsReadOfMentioned (library lib.now) (primitive prim.now))
+        view.old.reads view.new.reads }
     ensures goes_on { GoesOn view.old view.new }
 {
     let tasks = notify_all(alloc, view, lib, prim, depth.saturating_add(1), time)?;

@@ -8,7 +8,7 @@ ghost use Rattle.hp_report.specs.Ending.{status_from, AreStatuses, AreFinal};
 ghost use Rattle.hp_report.specs.Mapped as model;
 
 use crate::report::RuleStatus;
-use hp_rule::Library;
+use hp_rule::{Library, rule_number};
 use hp_store::{CellValue, Store};
 use hp_tree::{Ending, Objects, TopReport, UnitReport, replay};
 use hp_value::{Cell, RuleNo};
@@ -96,13 +96,6 @@ pub fn final_statuses(
         statuses.push(status_of(store, rule_number(place)?))?;
     }
     Ok(statuses)
-}
-
-/// The number of the rule at a position.
-fn rule_number(place: usize) -> Result<RuleNo, AllocError>
-    ensures { IfOk result (λ number. number ≡ place) }
-{
-    RuleNo::try_from(place).map_err(|_| AllocError)
 }
 
 /// The status of a rule in a store.

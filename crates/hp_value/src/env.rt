@@ -319,7 +319,7 @@ impl<'a> Env<'a> {
 }
 
 impl<'a> Env<'a> {
-    ghost use Rattle.std.specs.Prelude.{◌≡◌};
+    ghost use Rattle.std.specs.Prelude.{◌≡◌, ◌≢◌, Err};
     ghost use Rattle.hp_model.specs.Expressions as model;
     ghost use Rattle.hp_value.specs.Mapped.{Meets, outcome, value, primitive, environment};
 
@@ -378,7 +378,8 @@ impl<'a> Env<'a> {
 
     /// The key of the row of this name, as a value.
     pub(crate) fn key_of(&self, variable: &str) -> Result<Value, Halt>
-        ensures { Meets value result (model.value_of (environment self.now) (model.key_of variable.now)) }
+        ensures value { Meets value result (model.value_of (environment self.now) (model.key_of variable.now)) }
+        ensures memory { result ≢ Err Halt.Memory }
     {
         let (key, _) = self.row(variable)?;
         Ok(Value::Int(key))
@@ -402,7 +403,8 @@ impl<'a> Env<'a> {
 
     /// The key of an operation's object, as a value.
     pub(crate) fn key_in(&self, part: u16) -> Result<Value, Halt>
-        ensures { Meets value result (model.value_of (environment self.now) (model.key_in part)) }
+        ensures value { Meets value result (model.value_of (environment self.now) (model.key_in part)) }
+        ensures memory { result ≢ Err Halt.Memory }
     {
         Ok(Value::Int(self.part(part)?.key()?))
     }
@@ -416,14 +418,16 @@ impl<'a> Env<'a> {
 
     /// The moment that the clock reached, as a value.
     pub(crate) fn time_of(&self, part: u16) -> Result<Value, Halt>
-        ensures { Meets value result (model.value_of (environment self.now) (model.time_of part)) }
+        ensures value { Meets value result (model.value_of (environment self.now) (model.time_of part)) }
+        ensures memory { result ≢ Err Halt.Memory }
     {
         Ok(Value::Int(self.part(part)?.moment()?))
     }
 
     /// The occurrence's count, as a value. `NoParameter` means that there is no occurrence.
     pub(crate) fn count(&self) -> Result<Value, Halt>
-        ensures { Meets value result (model.value_of (environment self.now) model.occurrence_count) }
+        ensures value { Meets value result (model.value_of (environment self.now) model.occurrence_count) }
+        ensures memory { result ≢ Err Halt.Memory }
     {
         match self.occurrence {
             Some(o) => Ok(Value::Int(in_range(o.count)?)),

@@ -6,6 +6,7 @@ use Rattle.hp_model.specs.State.{enabled}
 use Rattle.hp_rule.specs.Mapped.{library, rule as rule_of, task as task_of}
 use Rattle.hp_ops.specs.Performs.{status_of}
 use Rattle.hp_ops.specs.Notified.{NotifiedEnabled, condition_task}
+use Rattle.hp_ops.proofs.Adding.{adds_status, adds_detector}
 use Rattle.hp_ops.proofs.Ruling.{found_at}
 use Rattle.hp_ops.proofs.Notices.{tells_idle, tells_nowhere, tells_enabled}
 use Rattle.hp_ops.proofs.notifying.notify.Goals as goal
@@ -48,3 +49,18 @@ returns-clause-notified c =
     c.in_ok-status.ensures.only c.in_ok-status.ensures.shows c.notify_enabled.new.view c.args.notice.now.depth (Some o) (Some (task_of c.new_task-task.result)) c.in_ok-made.next is made
     (subst (λ x. NotifiedEnabled (library c.args.lib.now) (primitive c.args.notice.now.prim.now) c.args.number c.find_status.new.view c.notify_enabled.new.view x c.in_ok-made.next)
     occurs (c.in_ok-made.ensures.notified (library c.args.lib.now) at))
+
+pub returns-then-not-is_enabled-clause-reads : goal.returns-then-not-is_enabled-clause-reads
+returns-then-not-is_enabled-clause-reads c = adds_status c.args.number c.in_ok-status.ensures.reads
+
+pub returns-in_default-clause-reads : goal.returns-in_default-clause-reads
+returns-in_default-clause-reads c = adds_status c.args.number c.in_ok-status.ensures.reads
+
+pub returns-in_err-made-clause-reads : goal.returns-in_err-made-clause-reads
+returns-in_err-made-clause-reads c = adds_detector c.args.number c.in_ok-status.ensures.reads c.notify_enabled.ensures.reads
+
+pub returns-in_default-made-clause-reads : goal.returns-in_default-made-clause-reads
+returns-in_default-made-clause-reads c = adds_detector c.args.number c.in_ok-status.ensures.reads c.notify_enabled.ensures.reads
+
+pub returns-clause-reads : goal.returns-clause-reads
+returns-clause-reads c = adds_detector c.args.number c.in_ok-status.ensures.reads c.notify_enabled.ensures.reads

@@ -6,9 +6,12 @@ use Rattle.hp_model.proofs.FaithfulFirings.{AreAt}
 use Rattle.hp_value.specs.Mapped.{primitive}
 use Rattle.hp_rule.specs.Mapped.{library, task as task_of}
 use Rattle.hp_rule.specs.Mentions.{is_mentioned}
+use Rattle.hp_view.specs.Adding.{adds_none}
 use Rattle.hp_view.specs.Looks.{only_reads_same, only_reads_then}
 use Rattle.hp_view.proofs.Views.{GoesOn-same, GoesOn-then}
+use Rattle.hp_ops.specs.Reading.{IsReadOfMentioned}
 use Rattle.hp_ops.specs.Stepped.{entries}
+use Rattle.hp_ops.proofs.Adding.{adds_mentioned}
 use Rattle.hp_ops.proofs.Notices.{HaveHeard, mentioned_among, none_heard, told_listed, all_listed, depth_more, tasks_more, reads_alone, reads_then_same, steps_written}
 use Rattle.hp_ops.proofs.notifying.notify_all.Goals as goal
 
@@ -21,6 +24,7 @@ loop-number-init c =
           (none_heard (library c.args.lib.now) (primitive c.args.prim.now) c.args.time c.args.view.now);
       shared = tt;
       depth = subst (AreAt c.args.depth) none tt;
+      reads = adds_none (IsReadOfMentioned (library c.args.lib.now) (primitive c.args.prim.now)) refl;
       only = only_reads_same c.args.view.now;
       goes_on = GoesOn-same c.args.view.now;
     }
@@ -45,6 +49,7 @@ loop-number-preserved c =
       shared = c.notify.ensures.shared;
       depth = subst (λ ts. AreAt c.args.depth (map task_of ts)) (sym c.in_ok-add.ensures)
           (depth_more c.args.depth c.loop-number.tasks.items c.in_ok-task.field-0.task c.loop-number.invariant.depth c.in_ok-task.ensures.depth);
+      reads = adds_mentioned (library c.args.lib.now) (primitive c.args.prim.now) n mentioned c.loop-number.invariant.reads c.notify.ensures.reads;
       only = only_reads_then c.args.view.now c.loop-number.view c.notify.new.view c.loop-number.invariant.only c.notify.ensures.only;
       goes_on = GoesOn-then c.loop-number.invariant.goes_on c.notify.ensures.goes_on;
     }
@@ -60,6 +65,10 @@ pub returns-in_err-task-clause-err : goal.returns-in_err-task-clause-err
 returns-in_err-task-clause-err c =
     on_err c.from_residual.result _ (reads_alone (only_reads_then c.args.view.now c.loop-number.view c.notify.new.view c.loop-number.invariant.only c.notify.ensures.only))
 
+pub returns-in_err-steps-clause-err : goal.returns-in_err-steps-clause-err
+returns-in_err-steps-clause-err c =
+    on_err c.from_residual-in_err-steps.result _ (reads_alone (only_reads_then c.args.view.now c.loop-number.view c.notify.new.view c.loop-number.invariant.only c.notify.ensures.only))
+
 pub returns-in_err-add-clause-err : goal.returns-in_err-add-clause-err
 returns-in_err-add-clause-err c =
     on_err c.from_residual-in_err-add.result _ (reads_alone (only_reads_then c.args.view.now c.loop-number.view c.notify.new.view c.loop-number.invariant.only c.notify.ensures.only))
@@ -69,3 +78,18 @@ returns-in_err-write-clause-err c = on_err c.from_residual-in_err-write.result _
 
 pub returns-clause-writes : goal.returns-clause-writes
 returns-clause-writes c = steps_written c.loop-number.invariant.only c.loop-number.invariant.heard.are_steps c.in_ok-write.ensures.ok
+
+pub returns-in_err-task-clause-reads : goal.returns-in_err-task-clause-reads
+returns-in_err-task-clause-reads c =
+    adds_mentioned (library c.args.lib.now) (primitive c.args.prim.now) (get_or c.listed-number-items.result.now c.loop-number.number-index 0)
+    (sym c.is_mentioned.ensures ∙ c.if-not-is_mentioned.false) c.loop-number.invariant.reads c.notify.ensures.reads
+
+pub returns-in_err-steps-clause-reads : goal.returns-in_err-steps-clause-reads
+returns-in_err-steps-clause-reads c =
+    adds_mentioned (library c.args.lib.now) (primitive c.args.prim.now) (get_or c.listed-number-items.result.now c.loop-number.number-index 0)
+    (sym c.is_mentioned.ensures ∙ c.if-not-is_mentioned.false) c.loop-number.invariant.reads c.notify.ensures.reads
+
+pub returns-in_err-add-clause-reads : goal.returns-in_err-add-clause-reads
+returns-in_err-add-clause-reads c =
+    adds_mentioned (library c.args.lib.now) (primitive c.args.prim.now) (get_or c.listed-number-items.result.now c.loop-number.number-index 0)
+    (sym c.is_mentioned.ensures ∙ c.if-not-is_mentioned.false) c.loop-number.invariant.reads c.notify.ensures.reads

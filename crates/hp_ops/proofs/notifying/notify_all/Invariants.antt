@@ -5,8 +5,10 @@ use Rattle.hp_store.specs.Changes.{changes}
 use Rattle.hp_value.specs.Mapped.{occurrence as occurrence_of, primitive}
 use Rattle.hp_rule.specs.Mapped.{library, task as task_of}
 use Rattle.hp_rule.specs.Mentions.{mentioning, is_mentioned}
+use Rattle.hp_view.specs.Adding.{AddsReads}
 use Rattle.hp_view.specs.Seeing.{OnlyReads, GoesOn}
 use Rattle.hp_ops.specs.Notified.{Shares}
+use Rattle.hp_ops.specs.Reading.{IsReadOfMentioned}
 use Rattle.hp_ops.specs.Stepped.{entries}
 use Rattle.hp_ops.proofs.Notices.{HaveHeard, mentioned_among}
 use Rattle.hp_ops.proofs.notifying.notify_all.Given as goal
@@ -20,6 +22,7 @@ invariant-loop-number l =
           l.fn.view l.view (changes (entries l.steps)) (map task_of l.tasks.items);
       shared : Shares (primitive l.prim) (option_map (λ o. occurrence_of o.value) l.shared);
       depth : AreAt l.depth (map task_of l.tasks.items);
+      reads : AddsReads (IsReadOfMentioned (library l.lib) (primitive l.prim)) l.fn.view.reads l.view.reads;
       only : OnlyReads l.fn.view l.view;
       goes_on : GoesOn l.fn.view l.view;
     }

@@ -13,7 +13,7 @@ loop-place-preserved c =
     let base = cells_in c.args.store.now in
     let count : length lib.rules ≡ length c.rules-place-end.result.now = ap length (sym c.rules-place-end.ensures) ∙ length-map c.rules-place-end.result.now rule in
     let below : c.loop-place.place < length lib.rules = omega (arith, count, c.loop-place-test.true) in
-    let one : status c.status_of.result ≡ status_from (base (rule_cell c.loop-place.place)) = c.status_of.ensures ∙ ap (λ n. status_from (base (rule_cell n))) c.in_ok-rule_number.ensures in
+    let one : status c.status_of.result ≡ status_from (base (rule_cell c.loop-place.place)) = c.status_of.ensures ∙ ap (λ n. status_from (base (rule_cell n))) c.in_ok-rule_number.ensures.number in
     let grown : map status c.loop-place.statuses.items ++ status c.status_of.result ∷ [] ≡ map status c.push.new.self.items =
     sym (map-append status c.loop-place.statuses.items (c.status_of.result ∷ [])) ∙ ap (map status) (sym c.in_ok-push.ensures.items) in
     subst (AreSome lib base (c.loop-place.place + 1)) grown
