@@ -369,7 +369,8 @@ def check(commands, seed):
     script = made(seed)
     given = json.dumps(script).encode()
     status, wrote, _ = by_pipe(commands["hipac_check"], given)
-    if by_pipe([*commands["hipac_check"], "--text"], script_text(rulebase.read(json.dumps(script))).encode())[1] != wrote:
+    text = script_text(rulebase.read(json.dumps(script))).encode()
+    if by_pipe([*commands["hipac_check"], "--text"], text)[1] != wrote:
         return "the script's text has other findings", {}
     _, report, _ = by_pipe([*commands["hipac"], "--tree"], given)
     found, lines = wrote.decode().splitlines(), report.decode().splitlines()
