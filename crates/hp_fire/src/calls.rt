@@ -1,6 +1,5 @@
 //! The calls for the layers above.
 
-ghost use Rattle.std.specs.Thread.{IsSync};
 ghost use Rattle.std.specs.Prelude.{◌≡◌, ◌+◌, ◌<◌, ◌≤◌, IfOk, map, length};
 ghost use Rattle.hp_model.specs.Cells.{Holds};
 ghost use Rattle.hp_model.specs.Firing as model;
@@ -20,7 +19,7 @@ use crate::context::Context;
 use crate::course::{Course, GroupOutcome};
 use crate::engine::Engine;
 use crate::halting::or_aborted;
-use crate::speculate::{Effort, Gate, Group, NoGate, Past};
+use crate::speculate::{ByThreads, Effort, Gate, Gated, Group, Past, Workers};
 use hp_attempt::{Attempt, Outcome};
 use hp_ops::trigger;
 use hp_rule::{Library, Stmt, Task};
@@ -30,7 +29,7 @@ use hp_view::View;
 use std::alloc::{AllocError, Global};
 use std::thread::Threads;
 
-impl<R: Threads + Sync> Engine<'_, R> {
+impl<W: Workers> Engine<'_, W> {
     /// Runs the body of a script in a transaction of depth `depth`, at the moment `time` of the clock: its statements
     /// in order, up to the first that isn't done.
     ///
@@ -94,17 +93,17 @@ impl<R: Threads + Sync> Engine<'_, R> {
             (siblings (fire_task (library self.now.lib.now)) stop_at_veto (map task_of tasks.now))
             view.old view.new (group_of g)) }
     {
-        self.run_with(view, tasks, stop_at_veto, &NoGate, false)
+        self.run_with(view, tasks, stop_at_veto, self.workers, false)
     }
 
-    /// Fires the tasks of a group as siblings, with a gate that is notified of the tasks that workers try. If `eager`
-    /// is set, workers are started even if they don't pay, as many as tasks and threads allow.
-    fn run_with<G: Gate + Sync>(
+    /// Fires the tasks of a group as siblings, where these workers try tasks ahead of their turn. If `eager` is set,
+    /// they are started even if they don't pay, as many as tasks and threads allow.
+    fn run_with<V: Workers>(
         &self,
         view: &mut View,
         tasks: &[Task],
         stop_at_veto: bool,
-        gate: &G,
+        workers: &V,
         eager: bool,
     ) -> Result<GroupOutcome, AllocError>
         ensures runs { IfOk result (SiblingsFire self.now.lib.now stop_at_veto tasks.now view.old view.new) }
@@ -116,18 +115,16 @@ impl<R: Threads + Sync> Engine<'_, R> {
             Outcome,
             AllocError,
         >
-            requires { IsSync R.row }
             ensures { IfOk result (TaskFires self.entry.now.lib.now task.now view.old view.new) }
         { self.inside(effort, width).fire_task(view, task) };
         let group = Group {
-            rt: self.rt,
+            workers,
             alloc: self.alloc,
             lib: self.lib,
             tasks,
             stop_at_veto,
             width: self.width,
             eager,
-            gate,
             fire: &fire,
             effort: self.effort,
             past: self.past,
@@ -162,15 +159,16 @@ pub fn run_group<R: Threads + Sync, G: Gate + Sync>(
     ensures alone { width < 2 → IfOk result (λ g. g.waves ≡ 0) }
 {
     let past = Past::new(alloc, lib, width);
-    let engine = Engine::new(rt, alloc, lib, width, &past);
-    engine.run_with(view, tasks, stop_at_veto, gate, true)
+    let workers = ByThreads::new(rt);
+    let engine = Engine::new(&workers, alloc, lib, width, &past);
+    engine.run_with(view, tasks, stop_at_veto, &Gated { rt, gate }, true)
 }
 
 /// Tries a task on a snapshot. The attempt stands for the task's firing on each state in which its reads hold.
 ///
 /// A group of firings inside uses at most `width` threads, while this thread sleeps.
-pub fn run_task<R: Threads + Sync>(
-    rt: &R,
+pub fn run_task<W: Workers>(
+    workers: &W,
     alloc: Global,
     lib: &Library,
     snapshot: Snapshot,
@@ -181,7 +179,7 @@ pub fn run_task<R: Threads + Sync>(
     ensures reads_held { IfOk result (λ a. Holds (cells_in snapshot) a.reads) }
 {
     let past = Past::new(alloc, lib, width);
-    let engine = Engine::new(rt, alloc, lib, width, &past);
+    let engine = Engine::new(workers, alloc, lib, width, &past);
     let mut view = View::new(alloc, snapshot)?;
     let outcome = engine.fire_task(&mut view, task)?;
     attempt_on(view, task, outcome)

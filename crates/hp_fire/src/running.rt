@@ -1,7 +1,6 @@
 //! The tasks of signals, groups and firings. They call the statements in `statement`, which call them.
 
 ghost use Rattle.std.specs.Prelude.{◌≡◌, ◌+◌, true, IfOk, All, map};
-ghost use Rattle.std.specs.Thread.{IsSync};
 ghost use Rattle.hp_model.specs.Transactions.{Work};
 ghost use Rattle.hp_rule.specs.Mapped.{library, task as task_of};
 ghost use Rattle.hp_view.specs.Seeing.{Seeing};
@@ -13,15 +12,14 @@ use crate::course::{Course, End, GroupOutcome};
 use crate::deciding::{Decision, action_of};
 use crate::engine::Engine;
 use crate::placing::{firing_course, place_tasks, placed_course, single_immediate};
-use crate::speculate::{Effort, FIRING, Group, NoGate};
+use crate::speculate::{Effort, FIRING, Group, Workers};
 use hp_attempt::Outcome;
 use hp_rule::Task;
 use hp_value::Halt;
 use hp_view::View;
 use std::alloc::AllocError;
-use std::thread::Threads;
 
-impl<R: Threads + Sync> Engine<'_, R> {
+impl<W: Workers> Engine<'_, W> {
     /// Starts the tasks of a signal, or of a statement that fires a rule: places them, and fires the immediate ones as
     /// siblings. A cause for which there are no tasks ends the signal or the statement.
     #[cycle(fire)]
@@ -70,21 +68,20 @@ impl<R: Threads + Sync> Engine<'_, R> {
             Outcome,
             AllocError,
         >
-            requires { IsSync R.row × (task.now.depth ≡ depth + 1) }
+            requires { task.now.depth ≡ depth + 1 }
             ensures { IfOk result (TaskFires self.entry.now.lib.now task.now view.old view.new) }
         {
             let _depth = depth;
             self.inside(effort, width).fire_task(view, task)
         };
         let group = Group {
-            rt: self.rt,
+            workers: self.workers,
             alloc: self.alloc,
             lib: self.lib,
             tasks,
             stop_at_veto: true,
             width: self.width,
             eager: false,
-            gate: &NoGate,
             fire: &fire,
             effort: self.effort,
             past: self.past,

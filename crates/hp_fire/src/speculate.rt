@@ -20,8 +20,11 @@ mod start;
 mod trial;
 mod wave;
 mod worker;
+mod workers;
 
 pub use gate::{Gate, NoGate};
 pub(crate) use group::Group;
 pub use past::{Effort, Past};
 pub(crate) use policy::{FIRING, ROW, STATEMENT};
+pub(crate) use workers::Gated;
+pub use workers::{Alone, ByThreads, Workers};

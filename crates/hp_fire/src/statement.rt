@@ -16,7 +16,7 @@ use crate::course::{Course, End};
 use crate::engine::Engine;
 use crate::halting::or_aborted;
 use crate::operations::{Binding, Selection, emit, event_course, is_true, make_signal};
-use crate::speculate::STATEMENT;
+use crate::speculate::{STATEMENT, Workers};
 use crate::vetoes::run_veto;
 use hp_ops::trigger;
 use hp_query::Aggregate;
@@ -24,9 +24,8 @@ use hp_rule::Stmt;
 use hp_value::{Cause, Expr, Halt, KeyedRow, Prim};
 use hp_view::View;
 use std::alloc::AllocError;
-use std::thread::Threads;
 
-impl<R: Threads + Sync> Engine<'_, R> {
+impl<W: Workers> Engine<'_, W> {
     /// Runs the statements of a body in order, up to the first that isn't done.
     #[cycle(fire)]
     pub(crate) fn statements(

@@ -12,14 +12,13 @@ ghost use Rattle.hp_fire.specs.Mapped.{course as course_of};
 ghost use Rattle.hp_top.specs.Runs.{Continues, IsRound};
 
 use crate::runner::Runner;
-use hp_fire::{Course, End, group_course};
+use hp_fire::{Course, End, Workers, group_course};
 use hp_rule::Library;
 use hp_value::Prim;
 use hp_view::View;
 use std::alloc::AllocError;
-use std::thread::Threads;
 
-impl<R: Threads + Sync> Runner<'_, R> {
+impl<W: Workers> Runner<'_, W> {
     /// Completes the course of a top-level transaction after its work: the commit event at the transaction's depth and
     /// the clock's moment in its unit, and the rounds of deferred tasks.
     ///

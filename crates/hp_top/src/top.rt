@@ -13,15 +13,14 @@ ghost use Rattle.hp_top.specs.Runs.{RunsTop, Finishes};
 use crate::closing::close;
 use crate::runner::Runner;
 use hp_attempt::Outcome;
-use hp_fire::{Course, End, Past};
+use hp_fire::{Course, End, Past, Workers};
 use hp_rule::{Detached, Library, Task, Unit};
 use hp_tree::{Ending, Item};
 use hp_value::{Prim, Veto};
 use hp_view::{Mark, View};
 use std::alloc::{AllocError, Global};
-use std::thread::Threads;
 
-impl<R: Threads + Sync> Runner<'_, R> {
+impl<W: Workers> Runner<'_, W> {
     /// Runs a unit's own transaction on the view: the script's body, or the signal of the moment, then the commit event
     /// and the deferred rounds. All of it runs at the clock's moment in the unit.
     pub(crate) fn run_top(&self, view: &mut View, unit: &Unit) -> Result<Top, AllocError>
@@ -98,8 +97,8 @@ pub struct Top {
 /// specification of the crates names this call, too, as the meaning of a top-level transaction.
 ///
 /// An error means that memory ran out; the view, which may have a part of the effects by then, is dropped.
-pub fn run_top<R: Threads + Sync>(
-    rt: &R,
+pub fn run_top<W: Workers>(
+    workers: &W,
     alloc: Global,
     lib: &Library,
     mut view: View,
@@ -112,7 +111,7 @@ pub fn run_top<R: Threads + Sync>(
         view r.1 (top_of r.0)) }
 {
     let past = Past::new(alloc, lib, width);
-    let top = Runner::new(rt, alloc, lib, width, &past).run_top(&mut view, unit)?;
+    let top = Runner::new(workers, alloc, lib, width, &past).run_top(&mut view, unit)?;
     Ok((top, view))
 }
 

@@ -14,16 +14,15 @@ ghost use Rattle.hp_top.specs.Units.{IsSoundUnit, RanUnit, IsReplayed, IsLawful,
 
 use crate::generations::due;
 use crate::runner::Runner;
-use hp_fire::Past;
+use hp_fire::{Past, Workers};
 use hp_rule::{Library, Unit};
 use hp_store::{Layer, Snapshot, Store};
 use hp_tree::{TopReport, UnitReport};
 use hp_view::{Found, Reads, Seen, View};
 use std::alloc::{AllocError, Global};
 use std::sync::Arc;
-use std::thread::Threads;
 
-impl<R: Threads + Sync> Runner<'_, R> {
+impl<W: Workers> Runner<'_, W> {
     /// Runs a unit on the view: its own transaction, and the cascade of what that detaches. The answer is its report.
     pub(crate) fn run_unit_on(&self, view: &mut View, unit: &Unit) -> Result<UnitReport, AllocError>
         ensures { IfOk result (λ r.
@@ -113,8 +112,8 @@ pub struct UnitAttempt {
 }
 
 /// Tries a unit on a snapshot. Groups of firings use at most `width` threads.
-pub fn attempt_unit<R: Threads + Sync>(
-    rt: &R,
+pub fn attempt_unit<W: Workers>(
+    workers: &W,
     alloc: Global,
     lib: &Library,
     snapshot: Snapshot,
@@ -126,7 +125,7 @@ pub fn attempt_unit<R: Threads + Sync>(
     ensures reads_held { IfOk result (λ a. Holds (cells_in snapshot) a.reads) }
 {
     let past = Past::new(alloc, lib, width);
-    let attempt = Runner::new(rt, alloc, lib, width, &past).attempt_unit(snapshot, unit)?;
+    let attempt = Runner::new(workers, alloc, lib, width, &past).attempt_unit(snapshot, unit)?;
     Ok(attempt)
 }
 
@@ -136,8 +135,8 @@ pub fn attempt_unit<R: Threads + Sync>(
 /// snapshot of it, at a cost that depends only on what they change. A class that the unit read as a whole stays listed
 /// for later units, until one of its objects changes a second time without such a read in between. A list goes on under
 /// the first change at the cost of one pass over it. An error means that memory ran out; the store is then as before.
-pub fn run_unit<R: Threads + Sync>(
-    rt: &R,
+pub fn run_unit<W: Workers>(
+    workers: &W,
     alloc: Global,
     lib: &Library,
     store: &mut Store,
@@ -156,7 +155,7 @@ pub fn run_unit<R: Threads + Sync>(
     ensures err { OnErr result (store.new ≡ store.old) }
 {
     let past = Past::new(alloc, lib, width);
-    let report = Runner::new(rt, alloc, lib, width, &past).run_unit(store, unit)?;
+    let report = Runner::new(workers, alloc, lib, width, &past).run_unit(store, unit)?;
     Ok(report)
 }
 

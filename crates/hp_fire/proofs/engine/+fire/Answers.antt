@@ -30,12 +30,6 @@ use Rattle.hp_fire.proofs.Making.{steps_halt}
 use Rattle.hp_fire.proofs.Stating.{with_is, veto_is, findings_now, body_under, steps_at, runs_at, signal_makes, found_halt, found_steps}
 use Rattle.hp_fire.proofs.Steps.{runs_answer, runs_ends, runs_value, found_value, sub_over, sub_then, body_each, loop_starts, loop_next, loop_stops, loop_ends, lone_runs}
 use Rattle.hp_fire.proofs.Starting.{signal_starts, signal_ready, then_starts, are_ready, start_none, start_single, single_measure, start_runs, group_measure, none_long, map_none, tasks_at}
-use denote.Param.{param}
-use denote.Param.Send.{IsSync, param_sync, sendable}
-use denote.Ref.{NamedLft}
-use Rattle.std.proofs.Crossing as heap
-use Rattle.hp_fire.specs.contracts.engine.Engine as EngineRow
-use Rattle.hp_fire.proofs.Sending.{engine_sync}
 use Rattle.hp_fire.proofs.engine.+fire.Goals as goal
 
 -- ---- a lone statement
@@ -178,12 +172,6 @@ Engine::start-returns g t c = λ work before starts.
     (runs_answer (c.in_ok-course.ensures ∙ (λ i. followed (record { end = done; queued = queued i; detached = apart i; items = no_items }) (group_answer (group c.in_ok-group.group))))
     (start_runs (map task c.in_ok-tasks.tasks.items) ready (λ e. some (map_none task c.in_ok-tasks.tasks.items e))
     (subst (λ ts. RunsGroup (library c.args.self.now.lib.now) (siblings (fire_task (library c.args.self.now.lib.now)) true ts) c.args.view.now c.fire_group.new.view (group c.in_ok-group.group)) now c.in_ok-group.ensures)))
-
-pub Engine::fire_group-run-requires-sync-F : goal.Engine::fire_group-run-requires-sync-F
-Engine::fire_group-run-requires-sync-F g t c = λ κs lives.
-    let r : IsSync g.row.R = search rules in
-    let engine : (κ : NamedLft) → IsSync (EngineRow.the_row κ (param 0 g.row.R)) = λ κ. engine_sync κ (param 0 g.row.R) (param_sync 0 g.row.R r) in
-    search (engine, heap.crosses, sendable) depth 30 fits 20000
 
 -- ---- the statements
 
