@@ -1,6 +1,8 @@
 //! The calls for the layers above.
 
 ghost use Rattle.std.specs.Prelude.{◌≡◌, ◌+◌, ◌<◌, ◌≤◌, IfOk, map, length};
+ghost use Rattle.std.specs.Thread.{IsSync};
+ghost use Rattle.hp_fire.specs.Trying.{MayTry, HasTried};
 ghost use Rattle.hp_model.specs.Cells.{Holds};
 ghost use Rattle.hp_model.specs.Firing as model;
 ghost use Rattle.hp_model.specs.Firing.{level_at, siblings, fire_task, signal_in};
@@ -19,8 +21,12 @@ use crate::context::Context;
 use crate::course::{Course, GroupOutcome};
 use crate::engine::Engine;
 use crate::halting::or_aborted;
-use crate::speculate::{ByThreads, Effort, Gate, Gated, Group, Past, Workers};
+use crate::speculate::{
+    Alone, By, ByThreads, Effort, Found, Gate, Gated, Group, Job, Past, Progress, Receiver, Wave,
+    Workers,
+};
 use hp_attempt::{Attempt, Outcome};
+use hp_board::Seat;
 use hp_ops::trigger;
 use hp_rule::{Library, Stmt, Task};
 use hp_store::Snapshot;
@@ -41,6 +47,7 @@ impl<W: Workers> Engine<'_, W> {
         depth: u8,
         time: u64,
     ) -> Result<Course, AllocError>
+        requires ready { W.ready self.now.workers.now }
         ensures { let level = level_at (library self.now.lib.now) time depth in
             IfOk result (λ c. Runs (library self.now.lib.now)
             (model.run_body (body_in body.now) level (no_context time)) view.old view.new (course c)) }
@@ -60,6 +67,7 @@ impl<W: Workers> Engine<'_, W> {
         depth: u8,
         time: u64,
     ) -> Result<Course, AllocError>
+        requires ready { W.ready self.now.workers.now }
         ensures { let level = level_at (library self.now.lib.now) time depth in
             IfOk result (λ c. Runs (library self.now.lib.now)
             (signal_in level (primitive prim.now)) view.old view.new (course c)) }
@@ -73,6 +81,7 @@ impl<W: Workers> Engine<'_, W> {
     ///
     /// While a group of firings inside has workers, this thread sleeps.
     pub fn run_firing(&self, view: &mut View, task: &Task) -> Result<Outcome, AllocError>
+        requires ready { W.ready self.now.workers.now }
         ensures { IfOk result (λ o. RunsFiring (library self.now.lib.now)
             (λ S. fire_task (library self.now.lib.now) S (task_of task.now)) view.old view.new (firing_of o)) }
     {
@@ -89,6 +98,7 @@ impl<W: Workers> Engine<'_, W> {
         tasks: &[Task],
         stop_at_veto: bool,
     ) -> Result<GroupOutcome, AllocError>
+        requires ready { W.ready self.now.workers.now }
         ensures { IfOk result (λ g. RunsGroup (library self.now.lib.now)
             (siblings (fire_task (library self.now.lib.now)) stop_at_veto (map task_of tasks.now))
             view.old view.new (group_of g)) }
@@ -106,6 +116,8 @@ impl<W: Workers> Engine<'_, W> {
         workers: &V,
         eager: bool,
     ) -> Result<GroupOutcome, AllocError>
+        requires ready { W.ready self.now.workers.now }
+        requires workers { V.ready workers.now }
         ensures runs { IfOk result (SiblingsFire self.now.lib.now stop_at_veto tasks.now view.old view.new) }
         ensures counted { IfOk result (λ g. g.accepted + g.reran ≡ length g.outcomes.items) }
         ensures waves { IfOk result (λ g. g.waves ≤ g.reran + 1) }
@@ -115,6 +127,7 @@ impl<W: Workers> Engine<'_, W> {
             Outcome,
             AllocError,
         >
+            requires { W.ready self.now.workers.now }
             ensures { IfOk result (TaskFires self.entry.now.lib.now task.now view.old view.new) }
         { self.inside(effort, width).fire_task(view, task) };
         let group = Group {
@@ -159,9 +172,19 @@ pub fn run_group<R: Threads + Sync, G: Gate + Sync>(
     ensures alone { width < 2 → IfOk result (λ g. g.waves ≡ 0) }
 {
     let past = Past::new(alloc, lib, width);
-    let workers = ByThreads::new(rt);
-    let engine = Engine::new(&workers, alloc, lib, width, &past);
-    engine.run_with(view, tasks, stop_at_veto, &Gated { rt, gate }, true)
+    let threads = ByThreads::new(rt);
+    let engine = Engine::new(&threads, alloc, lib, width, &past);
+    let gated = Gated { rt, gate };
+    let tries = |engine: &Engine<'_, Alone>, wave: &Wave<'_>, seats: (
+        Seat,
+        Vec<Job<'_>>,
+    ), view: &mut View, progress: &mut Progress, receivers: &mut Vec<Receiver<'_>>| -> Found
+        requires { IsSync R.row × IsSync G.row
+            × MayTry (library engine.now.lib.now) wave.now seats progress.old receivers.old }
+        ensures { HasTried (library engine.now.lib.now) wave.now view.old view.new
+            progress.old progress.new receivers.new result }
+    { gated.try_outside(engine, wave, seats, view, progress, receivers) };
+    engine.run_with(view, tasks, stop_at_veto, &By { tries: &tries }, true)
 }
 
 /// Tries a task on a snapshot. The attempt stands for the task's firing on each state in which its reads hold.
@@ -175,6 +198,7 @@ pub fn run_task<W: Workers>(
     task: &Task,
     width: usize,
 ) -> Result<Attempt, AllocError>
+    requires ready { W.ready workers.now }
     ensures sound { IfOk result (λ a. IsSound (library lib.now) (attempt_of a)) }
     ensures reads_held { IfOk result (λ a. Holds (cells_in snapshot) a.reads) }
 {

@@ -44,6 +44,7 @@ impl<'a, W> Engine<'a, W> {
     ) -> Engine<'a, W>
         ensures lib { result.lib ≡ lib.entry }
         ensures width { result.width ≡ width }
+        ensures workers { result.workers ≡ workers.entry }
     {
         Engine {
             workers,
@@ -58,7 +59,8 @@ impl<'a, W> Engine<'a, W> {
     /// The engine for an attempt, whose work is counted in `effort`, with at most `width` threads for a group inside
     /// it.
     pub(crate) fn inside<'b>(&'b self, effort: &'b Effort, width: usize) -> Engine<'b, W>
-        ensures { result.lib ≡ self.entry.now.lib }
+        ensures lib { result.lib ≡ self.entry.now.lib }
+        ensures workers { result.workers ≡ self.entry.now.workers }
     {
         Engine {
             workers: self.workers,

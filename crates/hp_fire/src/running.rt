@@ -29,7 +29,8 @@ impl<W: Workers> Engine<'_, W> {
         tasks: Result<Vec<Task>, Halt>,
         depth: u8,
     ) -> Result<Course, Halt>
-        requires { IfOk tasks (λ ts. AreReady (library self.now.lib.now) depth (map task_of ts.items)) }
+        requires ready { W.ready self.now.workers.now }
+        requires tasks { IfOk tasks (λ ts. AreReady (library self.now.lib.now) depth (map task_of ts.items)) }
         ensures { (work : Work) (before : Seeing) → TasksStart self.now.lib.now depth work before view.old tasks
             → Steps (library self.now.lib.now) work before view.new result }
     {
@@ -61,14 +62,15 @@ impl<W: Workers> Engine<'_, W> {
         tasks: &[Task],
         depth: u8,
     ) -> Result<GroupOutcome, AllocError>
-        requires { All (λ t. t.depth ≡ depth + 1) tasks.now }
+        requires ready { W.ready self.now.workers.now }
+        requires tasks { All (λ t. t.depth ≡ depth + 1) tasks.now }
         ensures { IfOk result (SiblingsFire self.now.lib.now true tasks.now view.old view.new) }
     {
         let fire = |view: &mut View, task: &Task, effort: &Effort, width: usize| -> Result<
             Outcome,
             AllocError,
         >
-            requires { task.now.depth ≡ depth + 1 }
+            requires { W.ready self.now.workers.now × (task.now.depth ≡ depth + 1) }
             ensures { IfOk result (TaskFires self.entry.now.lib.now task.now view.old view.new) }
         {
             let _depth = depth;
@@ -92,6 +94,7 @@ impl<W: Workers> Engine<'_, W> {
     /// Fires a task. Its rule's action runs as a subtransaction.
     #[cycle(fire)]
     pub(crate) fn fire_task(&self, view: &mut View, task: &Task) -> Result<Outcome, AllocError>
+        requires ready { W.ready self.now.workers.now }
         ensures { IfOk result (TaskFires self.now.lib.now task.now view.old view.new) }
     {
         self.effort.add(FIRING);

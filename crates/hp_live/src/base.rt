@@ -73,6 +73,7 @@ impl RuleBase {
         units: &[Unit],
         width: usize,
     ) -> Result<Vec<UnitReport>, AllocError>
+        requires ready { T.ready workers.now }
         ensures reports { IfOk result (λ reports. (base : L.RuleBase) → StandsFor self.old base →
             map unit_report reports.items ≡ (run_units base.library (map model_unit units.now) base.state).units) }
         ensures state { OnOk result ((base : L.RuleBase) → StandsFor self.old base →
@@ -96,6 +97,7 @@ impl RuleBase {
         schedule: Schedule,
         options: Options,
     ) -> Result<String, AllocError>
+        requires ready { T.ready workers.now }
         ensures text { IfOk result (λ text. (base : L.RuleBase) → StandsFor self.old base →
             string_bytes text
             ≡ (L.ran options.tree base (model_schedule schedule)).body

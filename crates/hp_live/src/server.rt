@@ -51,6 +51,7 @@ fn open_by<T: Workers>(
     script: Script,
     options: Options,
 ) -> Result<(String, Stage), AllocError>
+    requires ready { T.ready workers.now }
     ensures { IfOk result (λ opened. (line : List ℕ) → timed_script_in options.text line ≡ Ok (timed_script script) →
         Answers opened.0 opened.1 (L.answer (manner options) L.unopened line)) }
 {
@@ -70,6 +71,7 @@ fn open<T: Workers>(
     line: &[u8],
     options: Options,
 ) -> Result<(String, Stage), AllocError>
+    requires ready { T.ready workers.now }
     ensures { IfOk result (λ opened. Answers opened.0 opened.1 (L.answer (manner options) L.unopened line.now)) }
 {
     match read_script(alloc, line, options.text) {
@@ -87,6 +89,7 @@ fn answer_later<T: Workers>(
     line: &[u8],
     options: Options,
 ) -> Result<String, AllocError>
+    requires ready { T.ready workers.now }
     ensures { IfOk result (λ text. (now : L.RuleBase) →
         StandsFor base.old now → Answers text (Stage.Up base.new) (L.answer (manner options) (L.up now) line.now)) }
 {
@@ -113,6 +116,7 @@ fn answer_at<T: Workers>(
     line: &[u8],
     options: Options,
 ) -> Result<String, AllocError>
+    requires ready { T.ready workers.now }
     ensures { IfOk result (λ text. (now : L.Stage) →
         IsStage stage.old now → Answers text stage.new (L.answer (manner options) now line.now)) }
 {
@@ -151,7 +155,8 @@ impl Server {
         writer: &mut W,
         options: Options,
     ) -> Result<Server, Fault>
-        requires { W.has_failed writer.old ≡ false }
+        requires ready { T.ready workers.now }
+        requires writer { W.has_failed writer.old ≡ false }
         ensures output { OnOk result (Appends (W.contents writer.old) (W.contents writer.new)
             (L.opening_output (manner options) (bytes_of script))) }
         ensures next { IfOk result (λ server. IsServer server (L.opened_server (manner options) (bytes_of script))) }
@@ -176,7 +181,8 @@ impl Server {
         writer: &mut W,
         options: Options,
     ) -> Result<Server, Fault>
-        requires { W.has_failed writer.old ≡ false }
+        requires ready { T.ready workers.now }
+        requires writer { W.has_failed writer.old ≡ false }
         ensures output { OnOk result (Appends (W.contents writer.old) (W.contents writer.new)
             (L.opening_output (manner options) (Some file.items))) }
         ensures next { IfOk result (λ server. IsServer server (L.opened_server (manner options) (Some file.items))) }
@@ -210,6 +216,7 @@ impl Server {
     /// Answers the collected line, and clears it for the next. After an error some of what the line asks for may have
     /// happened.
     fn answer<T: Workers>(&mut self, workers: &T, alloc: Global) -> Result<String, AllocError>
+        requires ready { T.ready workers.now }
         ensures text { IfOk result (λ text. (s : L.Server) → IsServer self.old s → string_bytes text ≡ L.reply s) }
         ensures next { OnOk result ((s : L.Server) → IsServer self.old s → IsServer self.new (L.answered s)) }
     {
@@ -225,7 +232,8 @@ impl Server {
         alloc: Global,
         writer: &mut W,
     ) -> Result<(), Fault>
-        requires { W.has_failed writer.old ≡ false }
+        requires ready { T.ready workers.now }
+        requires writer { W.has_failed writer.old ≡ false }
         ensures output { OnOk result ((s : L.Server) →
             IsServer self.old s → Appends (W.contents writer.old) (W.contents writer.new) (L.reply s)) }
         ensures next { OnOk result ((s : L.Server) → IsServer self.old s → IsServer self.new (L.answered s)) }
@@ -249,7 +257,8 @@ impl Server {
         writer: &mut W,
         byte: u8,
     ) -> Result<(), Fault>
-        requires { W.has_failed writer.old ≡ false }
+        requires ready { T.ready workers.now }
+        requires writer { W.has_failed writer.old ≡ false }
         ensures output { OnOk result ((s : L.Server) →
             IsServer self.old s → Appends (W.contents writer.old) (W.contents writer.new) (L.byte_output s byte)) }
         ensures next { OnOk result ((s : L.Server) → IsServer self.old s → IsServer self.new (L.next s byte)) }
@@ -280,7 +289,8 @@ impl Server {
         writer: &mut W,
         piece: &[u8],
     ) -> Result<Server, Fault>
-        requires { W.has_failed writer.old ≡ false }
+        requires ready { T.ready workers.now }
+        requires writer { W.has_failed writer.old ≡ false }
         ensures output { OnOk result ((s : L.Server) → IsServer self s →
             Appends (W.contents writer.old) (W.contents writer.new) (L.piece_output s piece.now)) }
         ensures next { IfOk result (λ later. (s : L.Server) → IsServer self s → IsServer later (L.after s piece.now)) }
@@ -306,7 +316,8 @@ impl Server {
         alloc: Global,
         writer: &mut W,
     ) -> Result<(), Fault>
-        requires { W.has_failed writer.old ≡ false }
+        requires ready { T.ready workers.now }
+        requires writer { W.has_failed writer.old ≡ false }
         ensures output { OnOk result ((s : L.Server) →
             IsServer self.old s → Appends (W.contents writer.old) (W.contents writer.new) (L.end_output s)) }
         ensures stage { OnOk result ((s : L.Server) →
@@ -334,7 +345,8 @@ impl Server {
         alloc: Global,
         writer: &mut W,
     ) -> Result<Status, Fault>
-        requires { W.has_failed writer.old ≡ false }
+        requires ready { T.ready workers.now }
+        requires writer { W.has_failed writer.old ≡ false }
         ensures output { OnOk result ((s : L.Server) →
             IsServer self s → Appends (W.contents writer.old) (W.contents writer.new) (L.end_output s)) }
         ensures status { IfOk result (λ status. (s : L.Server) →

@@ -27,6 +27,7 @@ pub fn run<T: Workers, R: Source, W: Sink>(
     writer: &mut W,
     options: Options,
 ) -> Result<Status, Fault>
+    requires ready { T.ready workers.now }
     requires reader { R.has_failed reader.old ≡ false }
     requires writer { W.has_failed writer.old ≡ false }
 
@@ -65,6 +66,7 @@ pub fn serve<T: Workers, R: Source, W: Sink>(
     reader: &mut R,
     writer: &mut W,
 ) -> Result<Status, Fault>
+    requires ready { T.ready workers.now }
     requires reader { R.has_failed reader.old ≡ false }
     requires writer { W.has_failed writer.old ≡ false }
 

@@ -28,6 +28,7 @@ impl<W: Workers> Runner<'_, W> {
         view: &mut View,
         tasks: Vec<Task>,
     ) -> Result<Vec<TopReport>, AllocError>
+        requires ready { W.ready self.now.engine.workers.now }
         ensures { IfOk result (λ reports.
             RunsCascade (library self.now.engine.lib.now) (map task_of tasks.items) view.old view.new
             (map top_report reports.items)) }
@@ -48,6 +49,7 @@ impl<W: Workers> Runner<'_, W> {
 
     /// Runs a generation: each task as a top-level transaction, in order.
     fn run_generation(&self, view: &mut View, tasks: &[Task]) -> Result<Generation, AllocError>
+        requires ready { W.ready self.now.engine.workers.now }
         ensures { IfOk result (λ g.
             RunsGeneration (library self.now.engine.lib.now) (map task_of tasks.now) view.old view.new
             (generation_of g)) }
@@ -92,6 +94,7 @@ pub fn cascade<W: Workers>(
     tasks: Vec<Task>,
     width: usize,
 ) -> Result<(Vec<TopReport>, View), AllocError>
+    requires ready { W.ready workers.now }
     ensures { IfOk result (λ r.
         RunsCascade (library lib.now) (map task_of tasks.items) view r.1 (map top_report r.0.items)) }
 {

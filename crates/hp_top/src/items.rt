@@ -20,6 +20,7 @@ impl<W: Workers> Runner<'_, W> {
     ///
     /// The reports are those of the units before it, and the store is as the last of these left it.
     pub fn run_items(&self, store: &mut Store, items: &[Unit]) -> Items
+        requires ready { W.ready self.now.engine.workers.now }
         ensures ran { RanUnits (library self.now.engine.lib.now) (map unit_of items.now) (cells_in store.old)
             (cells_in store.new) (map unit_report result.reports.items) }
         ensures replayed { AreReplayed (library self.now.engine.lib.now) (map unit_of items.now) (cells_in store.old)
@@ -54,6 +55,7 @@ impl<W: Workers> Runner<'_, W> {
         unit: &Unit,
         reports: &mut Vec<UnitReport>,
     ) -> Result<(), AllocError>
+        requires ready { W.ready self.now.engine.workers.now }
         ensures ok { OnOk result (
             RanNext (library self.now.engine.lib.now) (unit_of unit.now) (cells_in store.old) (cells_in store.new)
             (map unit_report reports.old.items) (map unit_report reports.new.items)) }
@@ -110,6 +112,7 @@ pub fn run_items<W: Workers>(
     items: &[Unit],
     width: usize,
 ) -> Items
+    requires ready { W.ready workers.now }
     ensures ran { RanUnits (library lib.now) (map unit_of items.now) (cells_in store.old) (cells_in store.new)
         (map unit_report result.reports.items) }
     ensures replayed { AreReplayed (library lib.now) (map unit_of items.now) (cells_in store.old)

@@ -30,6 +30,7 @@ impl<W: Workers> Runner<'_, W> {
         depth: u8,
         time: u64,
     ) -> Result<Course, AllocError>
+        requires ready { W.ready self.now.engine.workers.now }
         ensures { IfOk result (λ c.
             Continues (library self.now.engine.lib.now)
             (top_course (library self.now.engine.lib.now) time depth) view.old view.new (course_of begun)
@@ -48,6 +49,7 @@ impl<W: Workers> Runner<'_, W> {
         depth: u8,
         time: u64,
     ) -> Result<Course, AllocError>
+        requires ready { W.ready self.now.engine.workers.now }
         ensures { IfOk result (λ c.
             Continues (library self.now.engine.lib.now)
             (λ work S. then_do (work S)
@@ -69,6 +71,7 @@ impl<W: Workers> Runner<'_, W> {
     /// Runs the queued tasks in rounds, while the course is done and tasks are queued. Each round runs what the one
     /// before it queued.
     fn run_rounds(&self, view: &mut View, begun: Course) -> Result<Course, AllocError>
+        requires ready { W.ready self.now.engine.workers.now }
         ensures { IfOk result (λ c.
             Continues (library self.now.engine.lib.now)
             (λ work S. model.rounds (model.most_rounds (library self.now.engine.lib.now))
@@ -88,7 +91,8 @@ impl<W: Workers> Runner<'_, W> {
 
     /// Runs a round: the queued tasks fire as siblings, and a veto aborts the transaction.
     fn run_round(&self, view: &mut View, mut course: Course) -> Result<Course, AllocError>
-        requires { answers.is_settled (course_of course).end (course_of course).queued ≡ false }
+        requires ready { W.ready self.now.engine.workers.now }
+        requires unsettled { answers.is_settled (course_of course).end (course_of course).queued ≡ false }
         ensures { IfOk result (λ c.
             IsRound (library self.now.engine.lib.now) view.old view.new (course_of course) (course_of c)) }
     {

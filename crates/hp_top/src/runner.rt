@@ -14,9 +14,9 @@ pub struct Runner<'a, W> {
 }
 
 impl<'a, W> Runner<'a, W> {
-    /// A runner with at most `width` threads for a group; with `Alone` the width is 1. The costs of firings are noted
-    /// in `past`. If one past serves several calls, the first long group informs all later ones. No report depends on
-    /// it.
+    /// A runner with at most `width` threads for a group; with `Alone` let the width be 1. The costs of firings are
+    /// noted in `past`. If one past serves several calls, the first long group informs all later ones. No report
+    /// depends on it.
     pub fn new(
         workers: &'a W,
         alloc: Global,
@@ -26,6 +26,7 @@ impl<'a, W> Runner<'a, W> {
     ) -> Runner<'a, W>
         ensures lib { result.engine.lib ≡ lib.entry }
         ensures width { result.engine.width ≡ width }
+        ensures workers { result.engine.workers ≡ workers.entry }
     {
         Runner {
             engine: Engine::new(workers, alloc, lib, width, past),

@@ -24,6 +24,7 @@ impl<W: Workers> Runner<'_, W> {
     /// Runs a unit's own transaction on the view: the script's body, or the signal of the moment, then the commit event
     /// and the deferred rounds. All of it runs at the clock's moment in the unit.
     pub(crate) fn run_top(&self, view: &mut View, unit: &Unit) -> Result<Top, AllocError>
+        requires ready { W.ready self.now.engine.workers.now }
         ensures { IfOk result (λ t.
             RunsTop (library self.now.engine.lib.now)
             (top (library self.now.engine.lib.now) (now_in (unit_of unit.now)) 0
@@ -47,6 +48,7 @@ impl<W: Workers> Runner<'_, W> {
     /// Runs a detached task on the view as a top-level transaction of its own, at the task's depth and moment. Its veto
     /// aborts the transaction.
     pub(crate) fn run_detached(&self, view: &mut View, task: &Task) -> Result<Top, AllocError>
+        requires ready { W.ready self.now.engine.workers.now }
         ensures { IfOk result (λ t.
             RunsTop (library self.now.engine.lib.now)
             (top (library self.now.engine.lib.now) (task_of task.now).now (task_of task.now).depth
@@ -68,7 +70,8 @@ impl<W: Workers> Runner<'_, W> {
         depth: u8,
         time: u64,
     ) -> Result<Top, AllocError>
-        requires { mark ≤ length view.old.undo }
+        requires ready { W.ready self.now.engine.workers.now }
+        requires mark { mark ≤ length view.old.undo }
         ensures { IfOk result (λ t.
             Finishes (library self.now.engine.lib.now) time depth mark view.old view.new
             (course_of course) (top_of t)) }
@@ -105,6 +108,7 @@ pub fn run_top<W: Workers>(
     unit: &Unit,
     width: usize,
 ) -> Result<(Top, View), AllocError>
+    requires ready { W.ready workers.now }
     ensures { IfOk result (λ r.
         RunsTop (library lib.now)
         (top (library lib.now) (now_in (unit_of unit.now)) 0 (unit_work (library lib.now) (unit_of unit.now)))

@@ -25,6 +25,7 @@ use std::sync::Arc;
 impl<W: Workers> Runner<'_, W> {
     /// Runs a unit on the view: its own transaction, and the cascade of what that detaches. The answer is its report.
     pub(crate) fn run_unit_on(&self, view: &mut View, unit: &Unit) -> Result<UnitReport, AllocError>
+        requires ready { W.ready self.now.engine.workers.now }
         ensures { IfOk result (λ r.
             RunsUnit (library self.now.engine.lib.now) (unit_of unit.now) view.old view.new (unit_report r)) }
     {
@@ -46,6 +47,7 @@ impl<W: Workers> Runner<'_, W> {
 
     /// Tries a unit on a snapshot.
     pub fn attempt_unit(&self, snapshot: Snapshot, unit: &Unit) -> Result<UnitAttempt, AllocError>
+        requires ready { W.ready self.now.engine.workers.now }
         ensures sound { IfOk result (λ a.
             IsSoundUnit (library self.now.engine.lib.now) (unit_of unit.now) a.reads (changes a.layer.value)
             (unit_report a.report)) }
@@ -68,6 +70,7 @@ impl<W: Workers> Runner<'_, W> {
     /// changes a second time without such a read in between. A list goes on under the first change at the cost of one
     /// pass over it. An error means that memory ran out; the store is then as before.
     pub fn run_unit(&self, store: &mut Store, unit: &Unit) -> Result<UnitReport, AllocError>
+        requires ready { W.ready self.now.engine.workers.now }
         ensures ran { IfOk result (λ r.
             RanUnit (library self.now.engine.lib.now) (unit_of unit.now) (cells_in store.old) (cells_in store.new)
             (unit_report r)) }
@@ -120,6 +123,7 @@ pub fn attempt_unit<W: Workers>(
     unit: &Unit,
     width: usize,
 ) -> Result<UnitAttempt, AllocError>
+    requires ready { W.ready workers.now }
     ensures sound { IfOk result (λ a.
         IsSoundUnit (library lib.now) (unit_of unit.now) a.reads (changes a.layer.value) (unit_report a.report)) }
     ensures reads_held { IfOk result (λ a. Holds (cells_in snapshot) a.reads) }
@@ -143,6 +147,7 @@ pub fn run_unit<W: Workers>(
     unit: &Unit,
     width: usize,
 ) -> Result<UnitReport, AllocError>
+    requires ready { W.ready workers.now }
     ensures ran { IfOk result (λ r.
         RanUnit (library lib.now) (unit_of unit.now) (cells_in store.old) (cells_in store.new) (unit_report r)) }
     ensures replayed { IfOk result (λ r.

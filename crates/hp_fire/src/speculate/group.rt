@@ -70,6 +70,7 @@ impl<W: Workers, F: Fn(&mut View, &Task, &Effort, usize) -> Result<Outcome, Allo
     /// Fires the tasks as siblings, in their order. The owner begins alone. With several tasks and threads, and enough
     /// work left, workers try the other tasks ahead of their turn.
     pub(crate) fn run(&self, view: &mut View) -> Result<GroupOutcome, AllocError>
+        requires ready { W.ready self.now.workers.now }
         requires fires { All (MayFire F.Fn self.now.fire.now) self.now.tasks.now }
         requires firings { Fires F.Fn self.now.fire.now (library self.now.lib.now) }
         ensures runs { let stops = self.now.stop_at_veto in
@@ -150,6 +151,7 @@ impl<W: Workers, F: Fn(&mut View, &Task, &Effort, usize) -> Result<Outcome, Allo
     /// Settles at least one task: by a wave if one is due, otherwise by a run on the owner's thread. Then accepts the
     /// front of the attempts.
     fn advance(&self, view: &mut View, progress: &mut Progress) -> Result<(), AllocError>
+        requires ready { W.ready self.now.workers.now }
         requires fires { All (MayFire F.Fn self.now.fire.now) self.now.tasks.now }
         requires firings { Fires F.Fn self.now.fire.now (library self.now.lib.now) }
         requires going { GoesOnBelow progress.old.settled (length self.now.tasks.now) }
@@ -173,6 +175,7 @@ impl<W: Workers, F: Fn(&mut View, &Task, &Effort, usize) -> Result<Outcome, Allo
 
     /// Runs a wave if one is due, which settles tasks from their attempts.
     fn settle_by_wave(&self, view: &mut View, progress: &mut Progress) -> Result<(), AllocError>
+        requires ready { W.ready self.now.workers.now }
         requires fires { All (MayFire F.Fn self.now.fire.now) self.now.tasks.now }
         requires firings { Fires F.Fn self.now.fire.now (library self.now.lib.now) }
         requires going { GoesOnBelow progress.old.settled (length self.now.tasks.now) }
@@ -220,6 +223,7 @@ impl<W: Workers, F: Fn(&mut View, &Task, &Effort, usize) -> Result<Outcome, Allo
         view: &mut View,
         progress: &mut Progress,
     ) -> Result<(), AllocError>
+        requires ready { W.ready self.now.workers.now }
         requires wave { IsWave wave.now }
         requires seat { IsSeatOf wave.now.board.deal seats.0 }
         requires jobs { All (IsJob (library self.now.lib.now) wave.now.board.deal) seats.1.items }

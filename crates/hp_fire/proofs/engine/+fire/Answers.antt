@@ -136,13 +136,13 @@ Engine::start-returns-then-is_empty g t c = λ work before starts.
 pub Engine::start-fire_task-requires : goal.Engine::start-fire_task-requires
 Engine::start-fire_task-requires g t c = λ κs lives.
     let is : c.args.tasks ≡ Ok c.in_ok-tasks.tasks = search rules in
-    let ready = are_ready c.args.self.now.lib.now c.args.depth c.args.tasks c.in_ok-tasks.tasks is c.requires in
+    let ready = are_ready c.args.self.now.lib.now c.args.depth c.args.tasks c.in_ok-tasks.tasks is c.requires.tasks in
     (omega (arith, single_measure c.args.self.now.lib.now c.args.depth c.in_ok-tasks.tasks.items c.in-Ok.task ready (ap (map task) c.in-Ok.ensures.one.0), c.decreases), (lives, search rules))
 
 pub Engine::start-returns-in-Ok : goal.Engine::start-returns-in-Ok
 Engine::start-returns-in-Ok g t c = λ work before starts.
     let is : c.args.tasks ≡ Ok c.in_ok-tasks.tasks = search rules in
-    let ready = are_ready c.args.self.now.lib.now c.args.depth c.args.tasks c.in_ok-tasks.tasks is c.requires in
+    let ready = are_ready c.args.self.now.lib.now c.args.depth c.args.tasks c.in_ok-tasks.tasks is c.requires.tasks in
     (then_starts c.args.self.now.lib.now c.args.depth work before c.args.view.now c.args.tasks c.in_ok-tasks.tasks is starts).then_runs
     (runs_answer c.firing_course.ensures
     (start_single (map task c.in_ok-tasks.tasks.items) (task c.in-Ok.task) ready (ap (map task) c.in-Ok.ensures.one.0) c.in-Ok.ensures.one.1 c.in_ok-outcome-in-Ok.ensures))
@@ -150,18 +150,18 @@ Engine::start-returns-in-Ok g t c = λ work before starts.
 pub Engine::start-fire_group-requires : goal.Engine::start-fire_group-requires
 Engine::start-fire_group-requires g t c = λ κs lives.
     let is : c.args.tasks ≡ Ok c.in_ok-tasks.tasks = search rules in
-    let ready = are_ready c.args.self.now.lib.now c.args.depth c.args.tasks c.in_ok-tasks.tasks is c.requires in
+    let ready = are_ready c.args.self.now.lib.now c.args.depth c.args.tasks c.in_ok-tasks.tasks is c.requires.tasks in
     let long : length c.in_ok-tasks.tasks.items ≡ c.in_ok-tasks.tasks.len = search rules in
     let some : c.in_ok-tasks.tasks.items ≡ [] → ⊥ = λ e. let zero : c.in_ok-tasks.tasks.len ≡ 0 = sym long ∙ ap length e in search rules in
     let now : map task c.deref.result.now ≡ filter (λ (u : Task). is_immediate u.place) (map task c.in_ok-tasks.tasks.items) = ap (map task) c.deref.ensures.value ∙ c.in_ok-placed.ensures.immediate ∙ ap (λ ts. filter (λ (u : Task). is_immediate u.place) (map task ts)) c.in-Err.ensures.others in
     let falls = group_measure c.args.self.now.lib.now c.args.depth c.in_ok-tasks.tasks.items ready some in
     let at = tasks_at c.args.depth c.in_ok-tasks.tasks.items c.deref.result.now ready now in
-    (omega (arith, falls, c.decreases), (lives, search (at, rules)))
+    (omega (arith, falls, c.decreases), (lives, (search rules, search (at, rules))))
 
 pub Engine::start-returns : goal.Engine::start-returns
 Engine::start-returns g t c = λ work before starts.
     let is : c.args.tasks ≡ Ok c.in_ok-tasks.tasks = search rules in
-    let ready = are_ready c.args.self.now.lib.now c.args.depth c.args.tasks c.in_ok-tasks.tasks is c.requires in
+    let ready = are_ready c.args.self.now.lib.now c.args.depth c.args.tasks c.in_ok-tasks.tasks is c.requires.tasks in
     let long : length c.in_ok-tasks.tasks.items ≡ c.in_ok-tasks.tasks.len = search rules in
     let some : c.in_ok-tasks.tasks.items ≡ [] → ⊥ = λ e. let zero : c.in_ok-tasks.tasks.len ≡ 0 = sym long ∙ ap length e in search rules in
     let same = c.in-Err.ensures.others in
