@@ -45,8 +45,6 @@ use Rattle.hp_board.specs.contracts.boards.Board as Board
 use Rattle.std.specs.contracts.sync.Arc as Arc
 use Rattle.hp_fire.specs.contracts.engine.Engine as Engine
 use Rattle.hp_fire.specs.contracts.speculate.trial.Trial as Trial
-use Rattle.hp_fire.specs.contracts.speculate.workers.Nested as Nested
-use Rattle.hp_fire.specs.contracts.speculate.workers.Alone as Alone
 use Rattle.hp_fire.specs.contracts.speculate.past.Past as Past
 use Rattle.hp_fire.specs.contracts.speculate.past.Effort as Effort
 use Rattle.hp_fire.specs.contracts.speculate.wave.Wave as Wave
@@ -262,13 +260,6 @@ pub engine_sync : (κ : NamedLft) (R : RattleType) → IsSync R → IsSync (Engi
 engine_sync κ R r =
     declared_sync (Engine.the_type κ R)
     (search (r, sendable) depth 12, (search (heap.sync, sendable) depth 12, (as_row_sync (shr_ref_field κ Library.the_row tt) (shr_sync κ.mir κ.lft Library.the_row library_row), (search sendable depth 12, (as_row_sync (shr_ref_field κ Past.the_row tt) (shr_sync κ.mir κ.lft Past.the_row past_row), (as_row_sync (shr_ref_field κ Effort.the_row tt) (shr_sync κ.mir κ.lft Effort.the_row effort_row), tt))))))
-
--- the workers of groups inside attempts
-pub nested_sync : (κ : NamedLft) (R : RattleType) → IsSync R → IsSync (Nested.the_row κ R)
-nested_sync κ R r = declared_sync (Nested.the_type κ R) (search (r, sendable) depth 12, tt)
-
-pub alone_sync : IsSync Alone.the_row
-alone_sync = search sendable depth 12
 
 wave_board : IsSync (Board.the_row (Arc.the_row Layer.the_row Heap.the_row ghosts))
 wave_board = board.the_sync (Arc.the_row Layer.the_row Heap.the_row ghosts) (heap.Arc-send Layer.the_row layer_row_send layer_row_sync) (heap.Arc-sync Layer.the_row layer_row_send layer_row_sync)

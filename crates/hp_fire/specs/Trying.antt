@@ -1,5 +1,5 @@
 -- Trying the tasks of a wave: what it needs, and what it gives.
-use Rattle.std.specs.Prelude.{List, Result, All, IfOk, OnOk}
+use Rattle.std.specs.Prelude.{Result, All, IfOk, OnOk}
 use Rattle.std.specs.Global.{Global}
 use Rattle.std.specs.declared.vec.Vec.{Vec}
 use Rattle.std.specs.declared.alloc.AllocError.{AllocError}

@@ -1,4 +1,4 @@
-use Rattle.std.proofs.Common.{rules, arith, List, ◌≡◌, ◌<◌, ◌≤◌, refl, ap, sym, ◌∙◌, subst, [], ◌∷◌, map, length, true, false}
+use Rattle.std.proofs.Common.{rules, arith, ◌≡◌, ◌<◌, ◌≤◌, refl, ap, sym, ◌∙◌, subst, [], ◌∷◌, map, length, true, false}
 use Rattle.std.proofs.Common.{SFits, w64, of_z, to_z, Ok}
 use Rattle.std.proofs.lemmas.Int.{to_z-of_z}
 use Rattle.std.proofs.lemmas.Result.{err_from_is_err_and, IfOk-weaker}
@@ -11,7 +11,7 @@ use Rattle.hp_model.specs.Transactions.{abort_by, deferred_of, detached_of, done
 use Rattle.hp_model.specs.Answers.{is_done, followed, group_answer}
 use Rattle.hp_model.specs.Rules as R
 use Rattle.hp_model.specs.Rules.{Body, is_immediate, rule_at}
-use Rattle.hp_model.specs.Firing.{Context, level_at, run_statement, run_body, with_row, with_let, task_environment, action_context, action_course, signal_in, values_of, boolean_value, choose, named_object, siblings, fire_task}
+use Rattle.hp_model.specs.Firing.{level_at, run_statement, run_body, with_row, with_let, task_environment, action_context, action_course, signal_in, values_of, boolean_value, choose, named_object, siblings, fire_task}
 use Rattle.hp_value.specs.Mapped.{keyed_row, value, expression, primitive, rule_operation}
 use Rattle.hp_query.specs.Mapped.{aggregate, findings, keyed_rows}
 use Rattle.hp_rule.specs.declared.stmt.Stmt.TheViews.{the_lemmas}

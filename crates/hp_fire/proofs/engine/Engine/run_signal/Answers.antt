@@ -1,4 +1,3 @@
-use Rattle.std.proofs.Common.{rules}
 use Rattle.std.proofs.lemmas.Result.{IfOk-weaker}
 use Rattle.hp_model.specs.Firing.{level_at, signal_in}
 use Rattle.hp_value.specs.Mapped.{primitive}
