@@ -6,7 +6,7 @@ use super::fixtures::{
 };
 use super::seen::{Balances, How, Said, Seen, all_shown, first_node, look, said, shown};
 use hp_attempt::{Settled, settle};
-use hp_fire::{End, Engine, Past, detached_after, end_transaction, ending, run_task};
+use hp_fire::{ByThreads, End, Engine, Past, detached_after, end_transaction, ending, run_task};
 use hp_rule::{CheckError, Detached, Library, Rule, Stmt, Task};
 use hp_store::CellValue;
 use hp_tree::{ConditionEnd, Ending, What};
@@ -29,7 +29,9 @@ fn run_on(
 ) -> Result<Seen, AllocError> {
     let body = body?;
     let past = Past::new(alloc, lib, 1);
-    let course = Engine::new(rt, alloc, lib, 1, &past).run_body(view, &body, depth, MOMENT)?;
+    let course = Engine::new(&ByThreads::new(rt), alloc, lib, 1, &past).run_body(
+        view, &body, depth, MOMENT,
+    )?;
     Ok(look(view, &course))
 }
 
@@ -68,7 +70,9 @@ fn signal_on(
         args: Vec::new(alloc),
     };
     let past = Past::new(alloc, lib, 1);
-    let course = Engine::new(rt, alloc, lib, 1, &past).run_signal(view, &signal, 0, MOMENT)?;
+    let course = Engine::new(&ByThreads::new(rt), alloc, lib, 1, &past).run_signal(
+        view, &signal, 0, MOMENT,
+    )?;
     Ok(look(view, &course))
 }
 
@@ -306,7 +310,7 @@ fn fire_on(
 ) -> Result<Fired, AllocError> {
     let task = task(alloc, 0, Coupling::Deferred)?;
     let past = Past::new(alloc, lib, 1);
-    let outcome = Engine::new(rt, alloc, lib, 1, &past).run_firing(view, &task)?;
+    let outcome = Engine::new(&ByThreads::new(rt), alloc, lib, 1, &past).run_firing(view, &task)?;
     let veto = outcome.end.as_ref().map(said);
     Ok((veto, first_node(&outcome.tree), all_shown(view)))
 }
@@ -352,7 +356,14 @@ fn settle_on(
     task: &Task,
     meanwhile: Option<i64>,
 ) -> Result<(Option<i64>, Settled, Option<i64>), AllocError> {
-    let tried = run_task(rt, alloc, lib, view.freeze(alloc)?, task, 1)?;
+    let tried = run_task(
+        &ByThreads::new(rt),
+        alloc,
+        lib,
+        view.freeze(alloc)?,
+        task,
+        1,
+    )?;
     if let Some(balance) = meanwhile {
         put(alloc, view, balance)?;
     }

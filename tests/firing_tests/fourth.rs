@@ -6,7 +6,7 @@ use super::fixtures::{
     set, sum_above, task, text, value_of,
 };
 use super::seen::{How, Said, Seen, emitted_inside, first_node, look, said};
-use hp_fire::{Engine, Past, group_course};
+use hp_fire::{ByThreads, Engine, Past, group_course};
 use hp_rule::{Aggregate, Entry, Rule, Stmt};
 use hp_tree::{ConditionEnd, What};
 use hp_value::{Arithmetic, Cause, Coupling, Expr};
@@ -69,7 +69,8 @@ fn run(
     let mut view = bank(alloc, &lib)?;
     let body = body?;
     let past = Past::new(alloc, &lib, 1);
-    let engine = Engine::new(rt, alloc, &lib, 1, &past);
+    let workers = ByThreads::new(rt);
+    let engine = Engine::new(&workers, alloc, &lib, 1, &past);
     let course = engine.run_body(&mut view, &body, 0, MOMENT)?;
     Ok(look(&view, &course))
 }
@@ -155,7 +156,8 @@ fn a_later_action_has_the_value_that_was_found(rt: HostRuntime) -> Result<(), Fa
     let lib = library(alloc, sums_later(alloc), makes(alloc))?;
     let mut view = bank(alloc, &lib)?;
     let past = Past::new(alloc, &lib, 1);
-    let engine = Engine::new(&rt, alloc, &lib, 1, &past);
+    let workers = ByThreads::new(&rt);
+    let engine = Engine::new(&workers, alloc, &lib, 1, &past);
     let course = engine.run_body(&mut view, &going(alloc)?, 0, MOMENT)?;
     let emptied = alone(alloc, set(alloc, 2, 0)?)?;
     let _ = engine.run_body(&mut view, &emptied, 0, MOMENT)?;
@@ -187,7 +189,9 @@ fn a_task_fires_at_its_own_moment(rt: HostRuntime) -> Result<(), Fail> {
     let mut task = task(alloc, 0, Coupling::Separate)?;
     task.time = 9;
     let past = Past::new(alloc, &lib, 1);
-    let outcome = Engine::new(&rt, alloc, &lib, 1, &past).run_firing(&mut view, &task)?;
+    let outcome = Engine::new(&ByThreads::new(&rt), alloc, &lib, 1, &past).run_firing(
+        &mut view, &task,
+    )?;
     let (_, how) = first_node(&outcome.tree).unwrap_or((What::Sub, How::Abort(Cause::Asked)));
     assert_eq!(rt; how, How::Done);
     assert_eq!(rt; emitted_inside(&outcome.tree), (Some(9), None, None));
@@ -329,7 +333,9 @@ fn a_closed_task_vetoes_its_own_transaction(rt: HostRuntime) -> Result<(), Fail>
     let mut view = bank(alloc, &lib)?;
     let task = task(alloc, 0, Coupling::Separate)?;
     let past = Past::new(alloc, &lib, 1);
-    let outcome = Engine::new(&rt, alloc, &lib, 1, &past).run_firing(&mut view, &task)?;
+    let outcome = Engine::new(&ByThreads::new(&rt), alloc, &lib, 1, &past).run_firing(
+        &mut view, &task,
+    )?;
     let veto: Option<Said> = outcome.end.as_ref().map(said);
     assert_eq!(rt; veto, Some((0, None)));
     Ok(())

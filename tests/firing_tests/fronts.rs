@@ -3,7 +3,7 @@
 use super::fixtures::{alone, bank, enriching, library, on_go, set, tasks};
 use super::seen::{Balances, all_shown};
 use hp_attempt::{Attempt, settle_front};
-use hp_fire::run_task;
+use hp_fire::{ByThreads, run_task};
 use hp_rule::{CheckError, Library, Rule, Task};
 use hp_value::{Coupling, Key};
 use hp_view::View;
@@ -36,7 +36,14 @@ fn tried(
     if !is_tried {
         return Ok(None);
     }
-    let attempt = run_task(rt, alloc, lib, view.freeze(alloc)?, task, 1)?;
+    let attempt = run_task(
+        &ByThreads::new(rt),
+        alloc,
+        lib,
+        view.freeze(alloc)?,
+        task,
+        1,
+    )?;
     Ok(Some(attempt))
 }
 

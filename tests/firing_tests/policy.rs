@@ -1,14 +1,13 @@
 //! Whether a group inside a unit has workers, by the counted cost of its rules' firings.
 
 use super::fixtures::{account, library, on_go, on_rich, task};
-use hp_fire::{Engine, Past};
+use hp_fire::{ByThreads, Engine, Past, Workers};
 use hp_rule::{CheckError, Library, Task};
 use hp_store::{CellValue, Snapshot};
 use hp_value::{Cell, Coupling};
 use hp_view::View;
 use std::alloc::{AllocError, Global};
 use std::test::Fail;
-use std::thread::Threads;
 
 // The first rule looks for an account whose balance is above 20, the second does nothing.
 fn rules(alloc: Global) -> Result<Library, CheckError> {
@@ -35,8 +34,8 @@ fn of_the_first(alloc: Global, count: usize) -> Result<Vec<Task>, AllocError> {
 }
 
 // The number of waves in a group of these firings.
-fn waves<R: Threads + Sync>(
-    engine: &Engine<R>,
+fn waves<W: Workers>(
+    engine: &Engine<W>,
     view: &mut View,
     count: usize,
 ) -> Result<usize, AllocError> {
@@ -51,7 +50,8 @@ fn short_siblings_have_no_workers(rt: HostRuntime) -> Result<(), Fail> {
     let alloc = rt.alloc();
     let lib = rules(alloc)?;
     let past = Past::new(alloc, &lib, 4);
-    let engine = Engine::new(&rt, alloc, &lib, 4, &past);
+    let workers = ByThreads::new(&rt);
+    let engine = Engine::new(&workers, alloc, &lib, 4, &past);
     let mut view = accounts(alloc, 20)?;
     for count in [2, 3, 4, 8, 9, 16] {
         assert_eq!(rt; waves(&engine, &mut view, count)?, 0, "of {count}");
@@ -66,7 +66,8 @@ fn long_siblings_have_workers_once_one_has_fired(rt: HostRuntime) -> Result<(), 
     let alloc = rt.alloc();
     let lib = rules(alloc)?;
     let past = Past::new(alloc, &lib, 4);
-    let engine = Engine::new(&rt, alloc, &lib, 4, &past);
+    let workers = ByThreads::new(&rt);
+    let engine = Engine::new(&workers, alloc, &lib, 4, &past);
     let mut view = accounts(alloc, 4_000)?;
     assert_eq!(rt; waves(&engine, &mut view, 2)?, 0);
     assert!(rt; waves(&engine, &mut view, 2)? > 0);

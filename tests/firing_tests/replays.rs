@@ -2,6 +2,7 @@
 
 use super::fixtures::{alone, checked_to, make, number, set, text};
 use hp_event::Pattern;
+use hp_fire::ByThreads;
 use hp_rule::{Assignment, CheckError, EventExpr, Library, Rule, RuleOperation, Stmt, Unit};
 use hp_store::{CellValue, Store};
 use hp_top::run_unit;
@@ -86,7 +87,7 @@ fn run(
     let lib = library(alloc)?;
     let body = Library::body(&lib, alloc, body(alloc)?)?;
     let unit = Unit::Transaction { time: 0, body };
-    Ok(run_unit(rt, alloc, &lib, store, &unit, 1)?)
+    Ok(run_unit(&ByThreads::new(rt), alloc, &lib, store, &unit, 1)?)
 }
 
 fn balance(row: &Row) -> Option<i64> {

@@ -2,6 +2,7 @@
 //! by hand.
 
 use super::fixtures::{alone, checked, give, install, on_signal};
+use hp_fire::ByThreads;
 use hp_rule::{CheckError, Library, Rule, RuleOperation, Stmt, Unit};
 use hp_store::{CellValue, Snapshot, Status};
 use hp_top::{attempt_unit, opening, run_top};
@@ -108,7 +109,7 @@ fn what_remains(
     unit: &Unit,
 ) -> Result<Remains, Halt> {
     let view = installed(alloc, library)?;
-    let (top, view) = run_top(rt, alloc, library, view, unit, 1)?;
+    let (top, view) = run_top(&ByThreads::new(rt), alloc, library, view, unit, 1)?;
     Ok(Remains {
         end: top.end,
         items: top.tree.len(),
@@ -133,7 +134,7 @@ fn assert_due(
     wanted: &[RuleNo],
 ) -> Result<(), Halt> {
     let snapshot = installed(alloc, library)?.freeze(alloc)?;
-    let tried = attempt_unit(rt, alloc, library, snapshot, unit, 1)?;
+    let tried = attempt_unit(&ByThreads::new(rt), alloc, library, snapshot, unit, 1)?;
     assert_rules(rt, &tried.report.tops, wanted);
     Ok(())
 }

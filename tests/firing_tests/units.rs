@@ -1,6 +1,7 @@
 //! Lists that a unit leaves in the store.
 
 use super::fixtures::{alone, bank, going, idles, library, on_go, set, text};
+use hp_fire::ByThreads;
 use hp_rule::{CheckError, Entry, Library, Query, Rule, Stmt, Unit};
 use hp_store::Store;
 use hp_top::run_unit;
@@ -46,7 +47,7 @@ fn are_listed_after(
 ) -> Result<bool, CheckError> {
     let body = Library::body(lib, alloc, body?)?;
     let unit = Unit::Transaction { time: 0, body };
-    drop(run_unit(rt, alloc, lib, store, &unit, 1)?);
+    drop(run_unit(&ByThreads::new(rt), alloc, lib, store, &unit, 1)?);
     Ok(store.snapshot()?.kept_objects(0).is_some())
 }
 

@@ -1,6 +1,7 @@
 //! Runs whose script is in a file.
 
 use super::fixtures::{ANSWERS, EASY, SCRIPT, Steps, bytes_until, later_lines, new_device};
+use hp_fire::ByThreads;
 use hp_live::{Fault, Options, Status, run};
 use hp_report::Watched;
 use std::process::Abort;
@@ -42,7 +43,15 @@ fn answered<R: AllocGlobal + Threads + Sync>(
     script.extend_from_slice(file)?;
     let mut reader = Watched::new(new_device(alloc, input, EASY));
     let mut writer = Watched::new(new_device(alloc, b"", writes));
-    let ended = run(rt, alloc, Some(script), &mut reader, &mut writer, options);
+    let threads = ByThreads::new(rt);
+    let ended = run(
+        &threads,
+        alloc,
+        Some(script),
+        &mut reader,
+        &mut writer,
+        options,
+    );
     Ok((
         writer.into_inner().output,
         reader.into_inner().input.len(),

@@ -3,6 +3,7 @@
 use super::fixtures::{
     ANSWERS, EASY, FOURTH_ANSWERS, Steps, bytes_until, fourth_session, new_device, session,
 };
+use hp_fire::ByThreads;
 use hp_live::{Fault, Options, Status, run};
 use hp_report::Watched;
 use std::process::Abort;
@@ -24,7 +25,8 @@ fn served<R: AllocGlobal + Threads + Sync>(
         tree: false,
         text: false,
     };
-    let ended = run(rt, alloc, None, &mut reader, &mut writer, options);
+    let threads = ByThreads::new(rt);
+    let ended = run(&threads, alloc, None, &mut reader, &mut writer, options);
     (writer.into_inner().output, ended)
 }
 

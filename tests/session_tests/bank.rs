@@ -1,5 +1,6 @@
 //! A small bank: a library of one class, bodies that change balances, and books over it.
 
+use hp_fire::ByThreads;
 use hp_rule::{Assignment, Body, CheckError, Library, Stmt, Unit as Item};
 use hp_sessions::{Blank, Book, BookName};
 use hp_store::{CellValue, Store};
@@ -159,7 +160,14 @@ impl<R: Threads + Sync> Bank<'_, R> {
         let mut store = opening(self.alloc)?;
         let body = Library::body(self.library, self.alloc, making(self.alloc, n)?)?;
         let unit = Item::Transaction { time: 0, body };
-        run_unit(self.rt, self.alloc, self.library, &mut store, &unit, 1)?;
+        run_unit(
+            &ByThreads::new(self.rt),
+            self.alloc,
+            self.library,
+            &mut store,
+            &unit,
+            1,
+        )?;
         Ok(store)
     }
 

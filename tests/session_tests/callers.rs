@@ -1,6 +1,7 @@
 //! Callers on threads of their own.
 
 use super::bank::{Bank, balance, library};
+use hp_fire::ByThreads;
 use hp_rule::{Body, Unit as Item};
 use hp_sessions::laws::{kept, legal};
 use hp_sessions::{Blank, Book, BookName, History, NoGate, Receipt, Session};
@@ -144,7 +145,14 @@ fn replay<R: Threads + Sync>(
     body: Body,
 ) -> Result<(), Fail> {
     let unit = Item::Transaction { time: 0, body };
-    run_unit(bank.rt, bank.alloc, bank.library, store, &unit, 1)?;
+    run_unit(
+        &ByThreads::new(bank.rt),
+        bank.alloc,
+        bank.library,
+        store,
+        &unit,
+        1,
+    )?;
     Ok(())
 }
 

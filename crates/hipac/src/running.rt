@@ -9,6 +9,7 @@ ghost use Rattle.hp_report.specs.Mapped.{library, evaluation};
 ghost use Rattle.hp_script.specs.Mapped.{script as script_of_model};
 ghost use Rattle.hipac.specs.Ends.{status_of};
 
+use hp_fire::ByThreads;
 use hp_notation::{Unread, read_script};
 use hp_report::{
     Fault, ReadFault, Report, Sink, Source, Status, final_state, read_up_to, write_report,
@@ -123,7 +124,8 @@ fn evaluated<T: Threads + Sync>(
 {
     let Script { library, items, .. } = script;
     let mut store = opening(alloc)?;
-    let ran = run_items(rt, alloc, &library, &mut store, &items, workers);
+    let threads = ByThreads::new(rt);
+    let ran = run_items(&threads, alloc, &library, &mut store, &items, workers);
     let units = ran.whole()?;
     let (objects, statuses) = final_state(alloc, &library, &store, &units)?;
     // They aren't freed either: the program only writes the report now, and then ends.

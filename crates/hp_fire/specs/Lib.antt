@@ -8,4 +8,5 @@ pub mod Mapped
 pub mod Runs
 pub mod Signals
 pub mod Statements
+pub mod Trying
 pub mod Weights

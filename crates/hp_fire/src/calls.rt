@@ -1,7 +1,8 @@
 //! The calls for the layers above.
 
-ghost use Rattle.std.specs.Thread.{IsSync};
 ghost use Rattle.std.specs.Prelude.{◌≡◌, ◌+◌, ◌<◌, ◌≤◌, IfOk, map, length};
+ghost use Rattle.std.specs.Thread.{IsSync};
+ghost use Rattle.hp_fire.specs.Trying.{MayTry, HasTried};
 ghost use Rattle.hp_model.specs.Cells.{Holds};
 ghost use Rattle.hp_model.specs.Firing as model;
 ghost use Rattle.hp_model.specs.Firing.{level_at, siblings, fire_task, signal_in};
@@ -20,8 +21,12 @@ use crate::context::Context;
 use crate::course::{Course, GroupOutcome};
 use crate::engine::Engine;
 use crate::halting::or_aborted;
-use crate::speculate::{Effort, Gate, Group, NoGate, Past};
+use crate::speculate::{
+    Alone, By, ByThreads, Effort, Found, Gate, Gated, Group, Job, Past, Progress, Receiver, Wave,
+    Workers,
+};
 use hp_attempt::{Attempt, Outcome};
+use hp_board::Seat;
 use hp_ops::trigger;
 use hp_rule::{Library, Stmt, Task};
 use hp_store::Snapshot;
@@ -30,7 +35,7 @@ use hp_view::View;
 use std::alloc::{AllocError, Global};
 use std::thread::Threads;
 
-impl<R: Threads + Sync> Engine<'_, R> {
+impl<W: Workers> Engine<'_, W> {
     /// Runs the body of a script in a transaction of depth `depth`, at the moment `time` of the clock: its statements
     /// in order, up to the first that isn't done.
     ///
@@ -42,6 +47,7 @@ impl<R: Threads + Sync> Engine<'_, R> {
         depth: u8,
         time: u64,
     ) -> Result<Course, AllocError>
+        requires ready { W.ready self.now.workers.now }
         ensures { let level = level_at (library self.now.lib.now) time depth in
             IfOk result (λ c. Runs (library self.now.lib.now)
             (model.run_body (body_in body.now) level (no_context time)) view.old view.new (course c)) }
@@ -61,6 +67,7 @@ impl<R: Threads + Sync> Engine<'_, R> {
         depth: u8,
         time: u64,
     ) -> Result<Course, AllocError>
+        requires ready { W.ready self.now.workers.now }
         ensures { let level = level_at (library self.now.lib.now) time depth in
             IfOk result (λ c. Runs (library self.now.lib.now)
             (signal_in level (primitive prim.now)) view.old view.new (course c)) }
@@ -74,6 +81,7 @@ impl<R: Threads + Sync> Engine<'_, R> {
     ///
     /// While a group of firings inside has workers, this thread sleeps.
     pub fn run_firing(&self, view: &mut View, task: &Task) -> Result<Outcome, AllocError>
+        requires ready { W.ready self.now.workers.now }
         ensures { IfOk result (λ o. RunsFiring (library self.now.lib.now)
             (λ S. fire_task (library self.now.lib.now) S (task_of task.now)) view.old view.new (firing_of o)) }
     {
@@ -90,23 +98,26 @@ impl<R: Threads + Sync> Engine<'_, R> {
         tasks: &[Task],
         stop_at_veto: bool,
     ) -> Result<GroupOutcome, AllocError>
+        requires ready { W.ready self.now.workers.now }
         ensures { IfOk result (λ g. RunsGroup (library self.now.lib.now)
             (siblings (fire_task (library self.now.lib.now)) stop_at_veto (map task_of tasks.now))
             view.old view.new (group_of g)) }
     {
-        self.run_with(view, tasks, stop_at_veto, &NoGate, false)
+        self.run_with(view, tasks, stop_at_veto, self.workers, false)
     }
 
-    /// Fires the tasks of a group as siblings, with a gate that is notified of the tasks that workers try. If `eager`
-    /// is set, workers are started even if they don't pay, as many as tasks and threads allow.
-    fn run_with<G: Gate + Sync>(
+    /// Fires the tasks of a group as siblings, where these workers try tasks ahead of their turn. If `eager` is set,
+    /// they are started even if they don't pay, as many as tasks and threads allow.
+    fn run_with<V: Workers>(
         &self,
         view: &mut View,
         tasks: &[Task],
         stop_at_veto: bool,
-        gate: &G,
+        workers: &V,
         eager: bool,
     ) -> Result<GroupOutcome, AllocError>
+        requires ready { W.ready self.now.workers.now }
+        requires workers { V.ready workers.now }
         ensures runs { IfOk result (SiblingsFire self.now.lib.now stop_at_veto tasks.now view.old view.new) }
         ensures counted { IfOk result (λ g. g.accepted + g.reran ≡ length g.outcomes.items) }
         ensures waves { IfOk result (λ g. g.waves ≤ g.reran + 1) }
@@ -116,18 +127,17 @@ impl<R: Threads + Sync> Engine<'_, R> {
             Outcome,
             AllocError,
         >
-            requires { IsSync R.row }
+            requires { W.ready self.now.workers.now }
             ensures { IfOk result (TaskFires self.entry.now.lib.now task.now view.old view.new) }
         { self.inside(effort, width).fire_task(view, task) };
         let group = Group {
-            rt: self.rt,
+            workers,
             alloc: self.alloc,
             lib: self.lib,
             tasks,
             stop_at_veto,
             width: self.width,
             eager,
-            gate,
             fire: &fire,
             effort: self.effort,
             past: self.past,
@@ -162,26 +172,38 @@ pub fn run_group<R: Threads + Sync, G: Gate + Sync>(
     ensures alone { width < 2 → IfOk result (λ g. g.waves ≡ 0) }
 {
     let past = Past::new(alloc, lib, width);
-    let engine = Engine::new(rt, alloc, lib, width, &past);
-    engine.run_with(view, tasks, stop_at_veto, gate, true)
+    let threads = ByThreads::new(rt);
+    let engine = Engine::new(&threads, alloc, lib, width, &past);
+    let gated = Gated { rt, gate };
+    let tries = |engine: &Engine<'_, Alone>, wave: &Wave<'_>, seats: (
+        Seat,
+        Vec<Job<'_>>,
+    ), view: &mut View, progress: &mut Progress, receivers: &mut Vec<Receiver<'_>>| -> Found
+        requires { IsSync R.row × IsSync G.row
+            × MayTry (library engine.now.lib.now) wave.now seats progress.old receivers.old }
+        ensures { HasTried (library engine.now.lib.now) wave.now view.old view.new
+            progress.old progress.new receivers.new result }
+    { gated.try_outside(engine, wave, seats, view, progress, receivers) };
+    engine.run_with(view, tasks, stop_at_veto, &By { tries: &tries }, true)
 }
 
 /// Tries a task on a snapshot. The attempt stands for the task's firing on each state in which its reads hold.
 ///
 /// A group of firings inside uses at most `width` threads, while this thread sleeps.
-pub fn run_task<R: Threads + Sync>(
-    rt: &R,
+pub fn run_task<W: Workers>(
+    workers: &W,
     alloc: Global,
     lib: &Library,
     snapshot: Snapshot,
     task: &Task,
     width: usize,
 ) -> Result<Attempt, AllocError>
+    requires ready { W.ready workers.now }
     ensures sound { IfOk result (λ a. IsSound (library lib.now) (attempt_of a)) }
     ensures reads_held { IfOk result (λ a. Holds (cells_in snapshot) a.reads) }
 {
     let past = Past::new(alloc, lib, width);
-    let engine = Engine::new(rt, alloc, lib, width, &past);
+    let engine = Engine::new(workers, alloc, lib, width, &past);
     let mut view = View::new(alloc, snapshot)?;
     let outcome = engine.fire_task(&mut view, task)?;
     attempt_on(view, task, outcome)

@@ -133,7 +133,7 @@ fn as_part(alloc: Global, what: What, course: Course, after: End) -> Result<Cour
     })
 }
 
-impl<R> Engine<'_, R> {
+impl<W> Engine<'_, W> {
     /// Ends the action of a task, which began at a mark and took this course.
     pub(crate) fn close_action(
         &self,

@@ -59,7 +59,7 @@ impl Found {
     }
 }
 
-impl<R> Engine<'_, R> {
+impl<W> Engine<'_, W> {
     /// Begins the firing of a task: evaluates a condition, and if it is satisfied, runs its action at once or places
     /// it.
     pub(crate) fn decide(&self, view: &mut View, task: &Task) -> Result<Decision, AllocError>

@@ -7,9 +7,9 @@ use hp_rule::Library;
 use std::alloc::{AllocError, Global};
 
 /// Runs statements, signals and firings on a view, by the rules of a library.
-pub struct Engine<'a, R> {
-    /// Starts threads.
-    pub(crate) rt: &'a R,
+pub struct Engine<'a, W> {
+    /// Who tries the tasks of groups ahead of their turn.
+    pub(crate) workers: &'a W,
     /// The allocator.
     pub alloc: Global,
     /// The library.
@@ -23,29 +23,31 @@ pub struct Engine<'a, R> {
 }
 
 // By hand, since a derived `clone` copies field by field, and its proof takes as long as that of a long function.
-impl<'a, R> Clone for Engine<'a, R> {
-    fn clone(&self) -> Result<Engine<'a, R>, AllocError> {
+impl<'a, W> Clone for Engine<'a, W> {
+    fn clone(&self) -> Result<Engine<'a, W>, AllocError> {
         Ok(*self)
     }
 }
 
-impl<'a, R> Copy for Engine<'a, R> {}
+impl<'a, W> Copy for Engine<'a, W> {}
 
-impl<'a, R> Engine<'a, R> {
-    /// An engine for a library, with at most `width` threads for a group. The costs of firings are noted in `past`,
-    /// which may serve several units, one after another.
+impl<'a, W> Engine<'a, W> {
+    /// An engine for a library, with at most `width` threads for a group. With `Alone` let the width be 1: waves that
+    /// try nothing only cost time. The costs of firings are noted in `past`, which may serve several units, one after
+    /// another.
     pub fn new(
-        rt: &'a R,
+        workers: &'a W,
         alloc: Global,
         lib: &'a Library,
         width: usize,
         past: &'a Past,
-    ) -> Engine<'a, R>
+    ) -> Engine<'a, W>
         ensures lib { result.lib ≡ lib.entry }
         ensures width { result.width ≡ width }
+        ensures workers { result.workers ≡ workers.entry }
     {
         Engine {
-            rt,
+            workers,
             alloc,
             lib,
             width,
@@ -56,11 +58,12 @@ impl<'a, R> Engine<'a, R> {
 
     /// The engine for an attempt, whose work is counted in `effort`, with at most `width` threads for a group inside
     /// it.
-    pub(crate) fn inside<'b>(&'b self, effort: &'b Effort, width: usize) -> Engine<'b, R>
-        ensures { result.lib ≡ self.entry.now.lib }
+    pub(crate) fn inside<'b>(&'b self, effort: &'b Effort, width: usize) -> Engine<'b, W>
+        ensures lib { result.lib ≡ self.entry.now.lib }
+        ensures workers { result.workers ≡ self.entry.now.workers }
     {
         Engine {
-            rt: self.rt,
+            workers: self.workers,
             alloc: self.alloc,
             lib: self.lib,
             width,

@@ -28,4 +28,4 @@ pub use closing::{detached_after, end_transaction, ending};
 pub use course::{Course, End, GroupOutcome};
 pub use engine::Engine;
 pub use placing::group_course;
-pub use speculate::{Effort, Gate, NoGate, Past};
+pub use speculate::{Alone, ByThreads, Effort, Gate, NoGate, Past, Workers};

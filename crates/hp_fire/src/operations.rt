@@ -55,7 +55,7 @@ pub(crate) struct Binding<'a> {
     pub(crate) key: &'a Expr,
 }
 
-impl<R> Engine<'_, R> {
+impl<W> Engine<'_, W> {
     /// Creates the object of a statement `create`. The answer is the occurrence to signal.
     #[inline(never)]
     pub(crate) fn create_object(

@@ -1,7 +1,6 @@
 //! The tasks of signals, groups and firings. They call the statements in `statement`, which call them.
 
 ghost use Rattle.std.specs.Prelude.{◌≡◌, ◌+◌, true, IfOk, All, map};
-ghost use Rattle.std.specs.Thread.{IsSync};
 ghost use Rattle.hp_model.specs.Transactions.{Work};
 ghost use Rattle.hp_rule.specs.Mapped.{library, task as task_of};
 ghost use Rattle.hp_view.specs.Seeing.{Seeing};
@@ -13,15 +12,14 @@ use crate::course::{Course, End, GroupOutcome};
 use crate::deciding::{Decision, action_of};
 use crate::engine::Engine;
 use crate::placing::{firing_course, place_tasks, placed_course, single_immediate};
-use crate::speculate::{Effort, FIRING, Group, NoGate};
+use crate::speculate::{Effort, FIRING, Group, Workers};
 use hp_attempt::Outcome;
 use hp_rule::Task;
 use hp_value::Halt;
 use hp_view::View;
 use std::alloc::AllocError;
-use std::thread::Threads;
 
-impl<R: Threads + Sync> Engine<'_, R> {
+impl<W: Workers> Engine<'_, W> {
     /// Starts the tasks of a signal, or of a statement that fires a rule: places them, and fires the immediate ones as
     /// siblings. A cause for which there are no tasks ends the signal or the statement.
     #[cycle(fire)]
@@ -31,7 +29,8 @@ impl<R: Threads + Sync> Engine<'_, R> {
         tasks: Result<Vec<Task>, Halt>,
         depth: u8,
     ) -> Result<Course, Halt>
-        requires { IfOk tasks (λ ts. AreReady (library self.now.lib.now) depth (map task_of ts.items)) }
+        requires ready { W.ready self.now.workers.now }
+        requires tasks { IfOk tasks (λ ts. AreReady (library self.now.lib.now) depth (map task_of ts.items)) }
         ensures { (work : Work) (before : Seeing) → TasksStart self.now.lib.now depth work before view.old tasks
             → Steps (library self.now.lib.now) work before view.new result }
     {
@@ -63,28 +62,28 @@ impl<R: Threads + Sync> Engine<'_, R> {
         tasks: &[Task],
         depth: u8,
     ) -> Result<GroupOutcome, AllocError>
-        requires { All (λ t. t.depth ≡ depth + 1) tasks.now }
+        requires ready { W.ready self.now.workers.now }
+        requires tasks { All (λ t. t.depth ≡ depth + 1) tasks.now }
         ensures { IfOk result (SiblingsFire self.now.lib.now true tasks.now view.old view.new) }
     {
         let fire = |view: &mut View, task: &Task, effort: &Effort, width: usize| -> Result<
             Outcome,
             AllocError,
         >
-            requires { IsSync R.row × (task.now.depth ≡ depth + 1) }
+            requires { W.ready self.now.workers.now × (task.now.depth ≡ depth + 1) }
             ensures { IfOk result (TaskFires self.entry.now.lib.now task.now view.old view.new) }
         {
             let _depth = depth;
             self.inside(effort, width).fire_task(view, task)
         };
         let group = Group {
-            rt: self.rt,
+            workers: self.workers,
             alloc: self.alloc,
             lib: self.lib,
             tasks,
             stop_at_veto: true,
             width: self.width,
             eager: false,
-            gate: &NoGate,
             fire: &fire,
             effort: self.effort,
             past: self.past,
@@ -95,6 +94,7 @@ impl<R: Threads + Sync> Engine<'_, R> {
     /// Fires a task. Its rule's action runs as a subtransaction.
     #[cycle(fire)]
     pub(crate) fn fire_task(&self, view: &mut View, task: &Task) -> Result<Outcome, AllocError>
+        requires ready { W.ready self.now.workers.now }
         ensures { IfOk result (TaskFires self.now.lib.now task.now view.old view.new) }
     {
         self.effort.add(FIRING);

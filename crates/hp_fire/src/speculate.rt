@@ -20,8 +20,14 @@ mod start;
 mod trial;
 mod wave;
 mod worker;
+mod workers;
 
+pub(crate) use channel::Receiver;
 pub use gate::{Gate, NoGate};
 pub(crate) use group::Group;
 pub use past::{Effort, Past};
 pub(crate) use policy::{FIRING, ROW, STATEMENT};
+pub(crate) use progress::Progress;
+pub(crate) use wave::{Job, Wave};
+pub(crate) use workers::{By, Found, Gated};
+pub use workers::{Alone, ByThreads, Workers};

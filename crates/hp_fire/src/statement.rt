@@ -16,7 +16,7 @@ use crate::course::{Course, End};
 use crate::engine::Engine;
 use crate::halting::or_aborted;
 use crate::operations::{Binding, Selection, emit, event_course, is_true, make_signal};
-use crate::speculate::STATEMENT;
+use crate::speculate::{STATEMENT, Workers};
 use crate::vetoes::run_veto;
 use hp_ops::trigger;
 use hp_query::Aggregate;
@@ -24,9 +24,8 @@ use hp_rule::Stmt;
 use hp_value::{Cause, Expr, Halt, KeyedRow, Prim};
 use hp_view::View;
 use std::alloc::AllocError;
-use std::thread::Threads;
 
-impl<R: Threads + Sync> Engine<'_, R> {
+impl<W: Workers> Engine<'_, W> {
     /// Runs the statements of a body in order, up to the first that isn't done.
     #[cycle(fire)]
     pub(crate) fn statements(
@@ -35,6 +34,7 @@ impl<R: Threads + Sync> Engine<'_, R> {
         body: &[Stmt],
         context: &Context<'_>,
     ) -> Result<Course, AllocError>
+        requires ready { W.ready self.now.workers.now }
         ensures { IfOk result (λ c. BodyRuns self.now.lib.now context.now (body_in body.now) view.old view.new c) }
     {
         self.effort.add(STATEMENT.saturating_mul(body.len() as u64));
@@ -55,6 +55,7 @@ impl<R: Threads + Sync> Engine<'_, R> {
         body: &[Stmt],
         context: &Context<'_>,
     ) -> Result<Course, AllocError>
+        requires ready { W.ready self.now.workers.now }
         ensures { IfOk result (λ c. BodyRuns self.now.lib.now context.now (body_in body.now) view.old view.new c) }
     {
         let mut so_far = Course::ended(self.alloc, End::Done);
@@ -72,6 +73,7 @@ impl<R: Threads + Sync> Engine<'_, R> {
     /// Runs a statement. A cause ends it before it has any effect.
     #[cycle(fire)]
     fn statement(&self, view: &mut View, stmt: &Stmt, context: &Context<'_>) -> Result<Course, Halt>
+        requires ready { W.ready self.now.workers.now }
         ensures { StatementRuns self.now.lib.now context.now (statement_of stmt.now) view.old view.new result }
     {
         match stmt {
@@ -171,6 +173,7 @@ impl<R: Threads + Sync> Engine<'_, R> {
         else_body: &[Stmt],
         context: &Context<'_>,
     ) -> Result<Course, Halt>
+        requires ready { W.ready self.now.workers.now }
         ensures { let condition = expression condition.now in
             let statement = rules.when condition (body_in then_body.now) (body_in else_body.now) in
             StatementRuns self.now.lib.now context.now statement view.old view.new result }
@@ -194,6 +197,7 @@ impl<R: Threads + Sync> Engine<'_, R> {
         body: &[Stmt],
         context: &Context<'_>,
     ) -> Result<Course, Halt>
+        requires ready { W.ready self.now.workers.now }
         ensures { let x = selection.entry.variable.now in
             let predicate = expression selection.entry.predicate.now in
             let statement = rules.each x selection.entry.class predicate (body_in body.now) in
@@ -218,6 +222,7 @@ impl<R: Threads + Sync> Engine<'_, R> {
         body: &[Stmt],
         context: &Context<'_>,
     ) -> Result<Course, Halt>
+        requires ready { W.ready self.now.workers.now }
         ensures { let x = binding.entry.variable.now in
             let key = expression binding.entry.key.now in
             let statement = rules.with_object x binding.entry.class key (body_in body.now) in
@@ -245,6 +250,7 @@ impl<R: Threads + Sync> Engine<'_, R> {
         body: &[Stmt],
         context: &Context<'_>,
     ) -> Result<Course, Halt>
+        requires ready { W.ready self.now.workers.now }
         ensures { let statement = rules.let_value name.now (aggregate_of aggregate.now) (body_in body.now) in
             StatementRuns self.now.lib.now context.now statement view.old view.new result }
     {
@@ -264,6 +270,7 @@ impl<R: Threads + Sync> Engine<'_, R> {
         otherwise: &[Stmt],
         context: &Context<'_>,
     ) -> Result<Course, Halt>
+        requires ready { W.ready self.now.workers.now }
         ensures { let statement = rules.subtransaction (body_in body.now) (body_in otherwise.now) in
             StatementRuns self.now.lib.now context.now statement view.old view.new result }
     {
@@ -288,6 +295,7 @@ impl<R: Threads + Sync> Engine<'_, R> {
         rows: &[KeyedRow],
         context: &Context<'_>,
     ) -> Result<Course, Halt>
+        requires ready { W.ready self.now.workers.now }
         ensures { let work = body_for_each self.now.lib.now context.now variable.now rows.now (body_in body.now) in
             Steps (library self.now.lib.now) work view.old view.new result }
     {
@@ -312,6 +320,7 @@ impl<R: Threads + Sync> Engine<'_, R> {
         view: &mut View,
         context: &Context<'_>,
     ) -> Result<Course, Halt>
+        requires ready { W.ready self.now.workers.now }
         ensures { (work : Work) (before : Seeing) → let level = level_in self.now.lib.now context.now in
             Makes primitive (library self.now.lib.now) level work before view.old made
             → Steps (library self.now.lib.now) work before view.new result }

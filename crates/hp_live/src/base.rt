@@ -14,7 +14,7 @@ ghost use Rattle.hp_live.specs.Kept.{StandsFor};
 ghost use Rattle.hp_live.specs.Running.{with_state, ran_base};
 
 use crate::options::Options;
-use hp_fire::Past;
+use hp_fire::{Past, Workers};
 use hp_report::{class_text, final_statuses, object_text, replay_units, state_text, units_text};
 use hp_rule::{Library, Unit};
 use hp_script::{Excerpt, Schedule, Version};
@@ -25,7 +25,6 @@ use std::alloc::{AllocError, Global};
 use std::fmt::Write;
 use std::mem;
 use std::sync::Arc;
-use std::thread::Threads;
 
 /// A rule base: its script's version and library, its state, its clock, and the number of units that have run.
 ///
@@ -67,19 +66,20 @@ impl RuleBase {
     }
 
     /// Runs units on the current state. The answer is their reports. After an error some of the units may have run.
-    fn run_units<T: Threads + Sync>(
+    fn run_units<T: Workers>(
         &mut self,
-        rt: &T,
+        workers: &T,
         alloc: Global,
         units: &[Unit],
-        workers: usize,
+        width: usize,
     ) -> Result<Vec<UnitReport>, AllocError>
+        requires ready { T.ready workers.now }
         ensures reports { IfOk result (λ reports. (base : L.RuleBase) → StandsFor self.old base →
             map unit_report reports.items ≡ (run_units base.library (map model_unit units.now) base.state).units) }
         ensures state { OnOk result ((base : L.RuleBase) → StandsFor self.old base →
             StandsFor self.new (with_state base (run_units base.library (map model_unit units.now) base.state).state)) }
     {
-        let runner = Runner::new(rt, alloc, &self.library, workers, &self.past);
+        let runner = Runner::new(workers, alloc, &self.library, width, &self.past);
         let ran = runner.run_items(&mut self.store, units);
         let reports = ran.whole()?;
         let objects = mem::replace(&mut self.objects, Objects::new(alloc));
@@ -90,13 +90,14 @@ impl RuleBase {
     /// Runs the units of an item, and makes the answer.
     ///
     /// An error means that memory ran out, or that the number of units exceeds 64 bits; some of them may have run.
-    pub(crate) fn run<T: Threads + Sync>(
+    pub(crate) fn run<T: Workers>(
         &mut self,
-        rt: &T,
+        workers: &T,
         alloc: Global,
         schedule: Schedule,
         options: Options,
     ) -> Result<String, AllocError>
+        requires ready { T.ready workers.now }
         ensures text { IfOk result (λ text. (base : L.RuleBase) → StandsFor self.old base →
             string_bytes text
             ≡ (L.ran options.tree base (model_schedule schedule)).body
@@ -104,7 +105,7 @@ impl RuleBase {
         ensures state { OnOk result ((base : L.RuleBase) → StandsFor self.old base →
             StandsFor self.new (ran_base base (model_schedule schedule))) }
     {
-        let reports = self.run_units(rt, alloc, &schedule.units, options.workers)?;
+        let reports = self.run_units(workers, alloc, &schedule.units, options.workers)?;
         let first = self.units.checked_add(1).ok_or(AllocError)?;
         let above = first.checked_add(reports.len()).ok_or(AllocError)?;
         let mut text = units_text(alloc, &self.library, options.tree, first, &reports)?;

@@ -12,11 +12,11 @@ ghost use Rattle.hp_live.specs.Kept.{StandsFor, IsStage, IsServer, manner, bytes
 
 use crate::base::RuleBase;
 use crate::options::Options;
+use hp_fire::Workers;
 use hp_notation::{Unread, read_request, read_script};
 use hp_report::{Fault, Sink, Status, write_text};
 use hp_script::{Request, Schedule, Script};
 use std::alloc::{AllocError, Global};
-use std::thread::Threads;
 
 /// The most bytes of a line that are kept: one more than a line may have shows that it is too long.
 const MOST_KEPT: usize = 1_048_577;
@@ -45,12 +45,13 @@ pub struct Server {
 }
 
 /// Runs the items of a script on a new rule base. The result is the answer and the next stage.
-fn open_by<T: Threads + Sync>(
-    rt: &T,
+fn open_by<T: Workers>(
+    workers: &T,
     alloc: Global,
     script: Script,
     options: Options,
 ) -> Result<(String, Stage), AllocError>
+    requires ready { T.ready workers.now }
     ensures { IfOk result (λ opened. (line : List ℕ) → timed_script_in options.text line ≡ Ok (timed_script script) →
         Answers opened.0 opened.1 (L.answer (manner options) L.unopened line)) }
 {
@@ -59,34 +60,36 @@ fn open_by<T: Threads + Sync>(
         units: script.items,
         clock: script.clock,
     };
-    let text = base.run(rt, alloc, schedule, options)?;
+    let text = base.run(workers, alloc, schedule, options)?;
     Ok((text, Stage::Up(base)))
 }
 
 /// Answers the first line. The result is the answer and the next stage.
-fn open<T: Threads + Sync>(
-    rt: &T,
+fn open<T: Workers>(
+    workers: &T,
     alloc: Global,
     line: &[u8],
     options: Options,
 ) -> Result<(String, Stage), AllocError>
+    requires ready { T.ready workers.now }
     ensures { IfOk result (λ opened. Answers opened.0 opened.1 (L.answer (manner options) L.unopened line.now)) }
 {
     match read_script(alloc, line, options.text) {
-        Ok(script) => open_by(rt, alloc, script, options),
+        Ok(script) => open_by(workers, alloc, script, options),
         Err(Unread::Refused(refusal)) => Ok((refusal, Stage::Closed)),
         Err(Unread::Memory) => Err(AllocError),
     }
 }
 
 /// Answers a later line. After an error some of its units may have run.
-fn answer_later<T: Threads + Sync>(
-    rt: &T,
+fn answer_later<T: Workers>(
+    workers: &T,
     alloc: Global,
     base: &mut RuleBase,
     line: &[u8],
     options: Options,
 ) -> Result<String, AllocError>
+    requires ready { T.ready workers.now }
     ensures { IfOk result (λ text. (now : L.RuleBase) →
         StandsFor base.old now → Answers text (Stage.Up base.new) (L.answer (manner options) (L.up now) line.now)) }
 {
@@ -98,7 +101,7 @@ fn answer_later<T: Threads + Sync>(
         line,
         options.text,
     ) {
-        Ok(Request::Item(schedule)) => base.run(rt, alloc, schedule, options),
+        Ok(Request::Item(schedule)) => base.run(workers, alloc, schedule, options),
         Ok(Request::Show(excerpt)) => base.show(alloc, excerpt),
         Err(Unread::Refused(refusal)) => Ok(refusal),
         Err(Unread::Memory) => Err(AllocError),
@@ -106,23 +109,24 @@ fn answer_later<T: Threads + Sync>(
 }
 
 /// Answers a line, and changes the stage. After an error some of what the line asks for may have happened.
-fn answer_at<T: Threads + Sync>(
-    rt: &T,
+fn answer_at<T: Workers>(
+    workers: &T,
     alloc: Global,
     stage: &mut Stage,
     line: &[u8],
     options: Options,
 ) -> Result<String, AllocError>
+    requires ready { T.ready workers.now }
     ensures { IfOk result (λ text. (now : L.Stage) →
         IsStage stage.old now → Answers text stage.new (L.answer (manner options) now line.now)) }
 {
     match stage {
         Stage::Unopened => {
-            let (text, opened) = open(rt, alloc, line, options)?;
+            let (text, opened) = open(workers, alloc, line, options)?;
             *stage = opened;
             Ok(text)
         }
-        Stage::Up(base) => answer_later(rt, alloc, base, line, options),
+        Stage::Up(base) => answer_later(workers, alloc, base, line, options),
         Stage::Closed => Ok(String::new(alloc)),
     }
 }
@@ -144,14 +148,15 @@ impl Server {
     ///
     /// The writer must not have failed before. After an error what was written is a prefix of the answer; after
     /// `Fault::NoMemory` it is nothing.
-    pub fn open<T: Threads + Sync, W: Sink>(
-        rt: &T,
+    pub fn open<T: Workers, W: Sink>(
+        workers: &T,
         alloc: Global,
         script: Option<Vec<u8>>,
         writer: &mut W,
         options: Options,
     ) -> Result<Server, Fault>
-        requires { W.has_failed writer.old ≡ false }
+        requires ready { T.ready workers.now }
+        requires writer { W.has_failed writer.old ≡ false }
         ensures output { OnOk result (Appends (W.contents writer.old) (W.contents writer.new)
             (L.opening_output (manner options) (bytes_of script))) }
         ensures next { IfOk result (λ server. IsServer server (L.opened_server (manner options) (bytes_of script))) }
@@ -163,20 +168,21 @@ impl Server {
         ensures read { result ≢ Err Fault.Read }
     {
         match script {
-            Some(file) => Server::open_by_file(rt, alloc, file, writer, options),
+            Some(file) => Server::open_by_file(workers, alloc, file, writer, options),
             None => Ok(Server::new(alloc, options)),
         }
     }
 
     /// A server that has answered a script's file.
-    fn open_by_file<T: Threads + Sync, W: Sink>(
-        rt: &T,
+    fn open_by_file<T: Workers, W: Sink>(
+        workers: &T,
         alloc: Global,
         file: Vec<u8>,
         writer: &mut W,
         options: Options,
     ) -> Result<Server, Fault>
-        requires { W.has_failed writer.old ≡ false }
+        requires ready { T.ready workers.now }
+        requires writer { W.has_failed writer.old ≡ false }
         ensures output { OnOk result (Appends (W.contents writer.old) (W.contents writer.new)
             (L.opening_output (manner options) (Some file.items))) }
         ensures next { IfOk result (λ server. IsServer server (L.opened_server (manner options) (Some file.items))) }
@@ -193,7 +199,7 @@ impl Server {
             stage,
             line: file,
         };
-        server.reply(rt, alloc, writer)?;
+        server.reply(workers, alloc, writer)?;
         Ok(server)
     }
 
@@ -209,23 +215,25 @@ impl Server {
 
     /// Answers the collected line, and clears it for the next. After an error some of what the line asks for may have
     /// happened.
-    fn answer<T: Threads + Sync>(&mut self, rt: &T, alloc: Global) -> Result<String, AllocError>
+    fn answer<T: Workers>(&mut self, workers: &T, alloc: Global) -> Result<String, AllocError>
+        requires ready { T.ready workers.now }
         ensures text { IfOk result (λ text. (s : L.Server) → IsServer self.old s → string_bytes text ≡ L.reply s) }
         ensures next { OnOk result ((s : L.Server) → IsServer self.old s → IsServer self.new (L.answered s)) }
     {
-        let text = answer_at(rt, alloc, &mut self.stage, &self.line, self.options)?;
+        let text = answer_at(workers, alloc, &mut self.stage, &self.line, self.options)?;
         self.line.clear();
         Ok(text)
     }
 
     /// Writes the answer to the collected line to a device.
-    pub(crate) fn reply<T: Threads + Sync, W: Sink>(
+    pub(crate) fn reply<T: Workers, W: Sink>(
         &mut self,
-        rt: &T,
+        workers: &T,
         alloc: Global,
         writer: &mut W,
     ) -> Result<(), Fault>
-        requires { W.has_failed writer.old ≡ false }
+        requires ready { T.ready workers.now }
+        requires writer { W.has_failed writer.old ≡ false }
         ensures output { OnOk result ((s : L.Server) →
             IsServer self.old s → Appends (W.contents writer.old) (W.contents writer.new) (L.reply s)) }
         ensures next { OnOk result ((s : L.Server) → IsServer self.old s → IsServer self.new (L.answered s)) }
@@ -236,20 +244,21 @@ impl Server {
         ensures whole { OnOk result (W.has_failed writer.new ≡ false) }
         ensures read { result ≢ Err Fault.Read }
     {
-        let text = self.answer(rt, alloc)?;
+        let text = self.answer(workers, alloc)?;
         write_text(writer, text.as_bytes())?;
         Ok(())
     }
 
     /// Takes one more byte.
-    fn feed_byte<T: Threads + Sync, W: Sink>(
+    fn feed_byte<T: Workers, W: Sink>(
         &mut self,
-        rt: &T,
+        workers: &T,
         alloc: Global,
         writer: &mut W,
         byte: u8,
     ) -> Result<(), Fault>
-        requires { W.has_failed writer.old ≡ false }
+        requires ready { T.ready workers.now }
+        requires writer { W.has_failed writer.old ≡ false }
         ensures output { OnOk result ((s : L.Server) →
             IsServer self.old s → Appends (W.contents writer.old) (W.contents writer.new) (L.byte_output s byte)) }
         ensures next { OnOk result ((s : L.Server) → IsServer self.old s → IsServer self.new (L.next s byte)) }
@@ -261,7 +270,7 @@ impl Server {
         ensures read { result ≢ Err Fault.Read }
     {
         if byte == b'\n' {
-            return self.reply(rt, alloc, writer);
+            return self.reply(workers, alloc, writer);
         }
         if self.line.len() < MOST_KEPT {
             self.line.push(byte)?;
@@ -273,14 +282,15 @@ impl Server {
     ///
     /// The writer must not have failed before. After an error what was written is a prefix of these answers; after
     /// `Fault::NoMemory` it is whole answers.
-    pub fn feed<T: Threads + Sync, W: Sink>(
+    pub fn feed<T: Workers, W: Sink>(
         self,
-        rt: &T,
+        workers: &T,
         alloc: Global,
         writer: &mut W,
         piece: &[u8],
     ) -> Result<Server, Fault>
-        requires { W.has_failed writer.old ≡ false }
+        requires ready { T.ready workers.now }
+        requires writer { W.has_failed writer.old ≡ false }
         ensures output { OnOk result ((s : L.Server) → IsServer self s →
             Appends (W.contents writer.old) (W.contents writer.new) (L.piece_output s piece.now)) }
         ensures next { IfOk result (λ later. (s : L.Server) → IsServer self s → IsServer later (L.after s piece.now)) }
@@ -294,19 +304,20 @@ impl Server {
     {
         let mut server = self;
         for byte in piece {
-            server.feed_byte(rt, alloc, writer, *byte)?;
+            server.feed_byte(workers, alloc, writer, *byte)?;
         }
         Ok(server)
     }
 
     /// Answers a last line without a line feed, if one has begun.
-    fn reply_last<T: Threads + Sync, W: Sink>(
+    fn reply_last<T: Workers, W: Sink>(
         &mut self,
-        rt: &T,
+        workers: &T,
         alloc: Global,
         writer: &mut W,
     ) -> Result<(), Fault>
-        requires { W.has_failed writer.old ≡ false }
+        requires ready { T.ready workers.now }
+        requires writer { W.has_failed writer.old ≡ false }
         ensures output { OnOk result ((s : L.Server) →
             IsServer self.old s → Appends (W.contents writer.old) (W.contents writer.new) (L.end_output s)) }
         ensures stage { OnOk result ((s : L.Server) →
@@ -321,20 +332,21 @@ impl Server {
         if self.line.is_empty() {
             return Ok(());
         }
-        self.reply(rt, alloc, writer)
+        self.reply(workers, alloc, writer)
     }
 
     /// Takes the end of the input: answers a last line without a line feed. The result is the status of the run.
     ///
     /// The writer must not have failed before. After an error what was written is a prefix of the answer; after
     /// `Fault::NoMemory` it is nothing.
-    pub fn finish<T: Threads + Sync, W: Sink>(
+    pub fn finish<T: Workers, W: Sink>(
         self,
-        rt: &T,
+        workers: &T,
         alloc: Global,
         writer: &mut W,
     ) -> Result<Status, Fault>
-        requires { W.has_failed writer.old ≡ false }
+        requires ready { T.ready workers.now }
+        requires writer { W.has_failed writer.old ≡ false }
         ensures output { OnOk result ((s : L.Server) →
             IsServer self s → Appends (W.contents writer.old) (W.contents writer.new) (L.end_output s)) }
         ensures status { IfOk result (λ status. (s : L.Server) →
@@ -346,7 +358,7 @@ impl Server {
         ensures read { result ≢ Err Fault.Read }
     {
         let mut server = self;
-        server.reply_last(rt, alloc, writer)?;
+        server.reply_last(workers, alloc, writer)?;
         Ok(server.status())
     }
 }

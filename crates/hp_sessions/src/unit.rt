@@ -7,6 +7,7 @@ ghost use Rattle.hp_attempt.specs.Holding.{FirstFailed};
 ghost use Rattle.hp_sessions.specs.Units.{IsSound};
 
 use hp_attempt::first_failed;
+use hp_fire::ByThreads;
 use hp_rule::{Body, Unit as Item};
 use hp_store::{Layer, Snapshot, Store};
 use hp_top::attempt_unit;
@@ -74,7 +75,7 @@ impl Unit {
     {
         let library = Arc::try_clone(body.library())?;
         let item = Item::Transaction { time, body };
-        let attempt = attempt_unit(rt, alloc, &library, snapshot, &item, width)?;
+        let attempt = attempt_unit(&ByThreads::new(rt), alloc, &library, snapshot, &item, width)?;
         let reply = Arc::new(alloc, attempt.report)?;
         let Item::Transaction { time, body } = item else {
             unreachable!()

@@ -10,15 +10,14 @@ ghost use Rattle.hp_top.specs.Runs.{RunsGeneration, RunsCascade};
 
 use crate::rounds::most_rounds;
 use crate::runner::Runner;
-use hp_fire::Past;
+use hp_fire::{Past, Workers};
 use hp_rule::{Detached, Library, Task};
 use hp_tree::TopReport;
 use hp_value::Coupling;
 use hp_view::View;
 use std::alloc::{AllocError, Global};
-use std::thread::Threads;
 
-impl<R: Threads + Sync> Runner<'_, R> {
+impl<W: Workers> Runner<'_, W> {
     /// Runs the cascade of detached tasks on the view. A generation runs each task as a top-level transaction, in
     /// order. The next one runs the tasks that these have detached and that are due. The answer is the report of each
     /// transaction.
@@ -29,6 +28,7 @@ impl<R: Threads + Sync> Runner<'_, R> {
         view: &mut View,
         tasks: Vec<Task>,
     ) -> Result<Vec<TopReport>, AllocError>
+        requires ready { W.ready self.now.engine.workers.now }
         ensures { IfOk result (λ reports.
             RunsCascade (library self.now.engine.lib.now) (map task_of tasks.items) view.old view.new
             (map top_report reports.items)) }
@@ -49,6 +49,7 @@ impl<R: Threads + Sync> Runner<'_, R> {
 
     /// Runs a generation: each task as a top-level transaction, in order.
     fn run_generation(&self, view: &mut View, tasks: &[Task]) -> Result<Generation, AllocError>
+        requires ready { W.ready self.now.engine.workers.now }
         ensures { IfOk result (λ g.
             RunsGeneration (library self.now.engine.lib.now) (map task_of tasks.now) view.old view.new
             (generation_of g)) }
@@ -85,19 +86,20 @@ pub(crate) struct Generation {
 /// call `run_unit`, of which this is the second part; the specification of the crates names this call, too.
 ///
 /// An error means that memory ran out; the view, which may have a part of the effects by then, is dropped.
-pub fn cascade<R: Threads + Sync>(
-    rt: &R,
+pub fn cascade<W: Workers>(
+    workers: &W,
     alloc: Global,
     lib: &Library,
     mut view: View,
     tasks: Vec<Task>,
     width: usize,
 ) -> Result<(Vec<TopReport>, View), AllocError>
+    requires ready { W.ready workers.now }
     ensures { IfOk result (λ r.
         RunsCascade (library lib.now) (map task_of tasks.items) view r.1 (map top_report r.0.items)) }
 {
     let past = Past::new(alloc, lib, width);
-    let reports = Runner::new(rt, alloc, lib, width, &past).cascade(&mut view, tasks)?;
+    let reports = Runner::new(workers, alloc, lib, width, &past).cascade(&mut view, tasks)?;
     Ok((reports, view))
 }
 

@@ -9,18 +9,18 @@ ghost use Rattle.hp_tree.specs.Mapped.{unit_report};
 ghost use Rattle.hp_top.specs.Units.{RanUnits, RanNext, AreReplayed, IsOpening, IsUnitOf};
 
 use crate::runner::Runner;
-use hp_fire::Past;
+use hp_fire::{Past, Workers};
 use hp_rule::{Library, Unit};
 use hp_store::Store;
 use hp_tree::UnitReport;
 use std::alloc::{AllocError, Global};
-use std::thread::Threads;
 
-impl<R: Threads + Sync> Runner<'_, R> {
+impl<W: Workers> Runner<'_, W> {
     /// Runs units on the committed store, one after another, up to the first for which memory runs out.
     ///
     /// The reports are those of the units before it, and the store is as the last of these left it.
     pub fn run_items(&self, store: &mut Store, items: &[Unit]) -> Items
+        requires ready { W.ready self.now.engine.workers.now }
         ensures ran { RanUnits (library self.now.engine.lib.now) (map unit_of items.now) (cells_in store.old)
             (cells_in store.new) (map unit_report result.reports.items) }
         ensures replayed { AreReplayed (library self.now.engine.lib.now) (map unit_of items.now) (cells_in store.old)
@@ -55,6 +55,7 @@ impl<R: Threads + Sync> Runner<'_, R> {
         unit: &Unit,
         reports: &mut Vec<UnitReport>,
     ) -> Result<(), AllocError>
+        requires ready { W.ready self.now.engine.workers.now }
         ensures ok { OnOk result (
             RanNext (library self.now.engine.lib.now) (unit_of unit.now) (cells_in store.old) (cells_in store.new)
             (map unit_report reports.old.items) (map unit_report reports.new.items)) }
@@ -103,14 +104,15 @@ pub fn opening(alloc: Global) -> Result<Store, AllocError>
 ///
 /// The reports are those of the units before it, and the store is as the last of these left it. Groups of firings use
 /// at most `width` threads.
-pub fn run_items<R: Threads + Sync>(
-    rt: &R,
+pub fn run_items<W: Workers>(
+    workers: &W,
     alloc: Global,
     lib: &Library,
     store: &mut Store,
     items: &[Unit],
     width: usize,
 ) -> Items
+    requires ready { W.ready workers.now }
     ensures ran { RanUnits (library lib.now) (map unit_of items.now) (cells_in store.old) (cells_in store.new)
         (map unit_report result.reports.items) }
     ensures replayed { AreReplayed (library lib.now) (map unit_of items.now) (cells_in store.old)
@@ -121,5 +123,5 @@ pub fn run_items<R: Threads + Sync>(
     ensures cut { IsSome result.stopped → length result.reports.items < length items.now }
 {
     let past = Past::new(alloc, lib, width);
-    Runner::new(rt, alloc, lib, width, &past).run_items(store, items)
+    Runner::new(workers, alloc, lib, width, &past).run_items(store, items)
 }

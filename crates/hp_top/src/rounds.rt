@@ -12,14 +12,13 @@ ghost use Rattle.hp_fire.specs.Mapped.{course as course_of};
 ghost use Rattle.hp_top.specs.Runs.{Continues, IsRound};
 
 use crate::runner::Runner;
-use hp_fire::{Course, End, group_course};
+use hp_fire::{Course, End, Workers, group_course};
 use hp_rule::Library;
 use hp_value::Prim;
 use hp_view::View;
 use std::alloc::AllocError;
-use std::thread::Threads;
 
-impl<R: Threads + Sync> Runner<'_, R> {
+impl<W: Workers> Runner<'_, W> {
     /// Completes the course of a top-level transaction after its work: the commit event at the transaction's depth and
     /// the clock's moment in its unit, and the rounds of deferred tasks.
     ///
@@ -31,6 +30,7 @@ impl<R: Threads + Sync> Runner<'_, R> {
         depth: u8,
         time: u64,
     ) -> Result<Course, AllocError>
+        requires ready { W.ready self.now.engine.workers.now }
         ensures { IfOk result (λ c.
             Continues (library self.now.engine.lib.now)
             (top_course (library self.now.engine.lib.now) time depth) view.old view.new (course_of begun)
@@ -49,6 +49,7 @@ impl<R: Threads + Sync> Runner<'_, R> {
         depth: u8,
         time: u64,
     ) -> Result<Course, AllocError>
+        requires ready { W.ready self.now.engine.workers.now }
         ensures { IfOk result (λ c.
             Continues (library self.now.engine.lib.now)
             (λ work S. then_do (work S)
@@ -70,6 +71,7 @@ impl<R: Threads + Sync> Runner<'_, R> {
     /// Runs the queued tasks in rounds, while the course is done and tasks are queued. Each round runs what the one
     /// before it queued.
     fn run_rounds(&self, view: &mut View, begun: Course) -> Result<Course, AllocError>
+        requires ready { W.ready self.now.engine.workers.now }
         ensures { IfOk result (λ c.
             Continues (library self.now.engine.lib.now)
             (λ work S. model.rounds (model.most_rounds (library self.now.engine.lib.now))
@@ -89,7 +91,8 @@ impl<R: Threads + Sync> Runner<'_, R> {
 
     /// Runs a round: the queued tasks fire as siblings, and a veto aborts the transaction.
     fn run_round(&self, view: &mut View, mut course: Course) -> Result<Course, AllocError>
-        requires { answers.is_settled (course_of course).end (course_of course).queued ≡ false }
+        requires ready { W.ready self.now.engine.workers.now }
+        requires unsettled { answers.is_settled (course_of course).end (course_of course).queued ≡ false }
         ensures { IfOk result (λ c.
             IsRound (library self.now.engine.lib.now) view.old view.new (course_of course) (course_of c)) }
     {

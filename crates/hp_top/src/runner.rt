@@ -8,26 +8,28 @@ use std::alloc::Global;
 
 /// Runs units and their transactions. It holds the engine, which has all their parameters.
 #[derive_where(Clone, Copy)]
-pub struct Runner<'a, R> {
+pub struct Runner<'a, W> {
     /// The engine.
-    pub engine: Engine<'a, R>,
+    pub engine: Engine<'a, W>,
 }
 
-impl<'a, R> Runner<'a, R> {
-    /// A runner with at most `width` threads for a group. The costs of firings are noted in `past`. If one past serves
-    /// several calls, the first long group informs all later ones. No report depends on it.
+impl<'a, W> Runner<'a, W> {
+    /// A runner with at most `width` threads for a group; with `Alone` let the width be 1. The costs of firings are
+    /// noted in `past`. If one past serves several calls, the first long group informs all later ones. No report
+    /// depends on it.
     pub fn new(
-        rt: &'a R,
+        workers: &'a W,
         alloc: Global,
         lib: &'a Library,
         width: usize,
         past: &'a Past,
-    ) -> Runner<'a, R>
+    ) -> Runner<'a, W>
         ensures lib { result.engine.lib ≡ lib.entry }
         ensures width { result.engine.width ≡ width }
+        ensures workers { result.engine.workers ≡ workers.entry }
     {
         Runner {
-            engine: Engine::new(rt, alloc, lib, width, past),
+            engine: Engine::new(workers, alloc, lib, width, past),
         }
     }
 

@@ -13,18 +13,18 @@ ghost use Rattle.hp_top.specs.Runs.{RunsTop, Finishes};
 use crate::closing::close;
 use crate::runner::Runner;
 use hp_attempt::Outcome;
-use hp_fire::{Course, End, Past};
+use hp_fire::{Course, End, Past, Workers};
 use hp_rule::{Detached, Library, Task, Unit};
 use hp_tree::{Ending, Item};
 use hp_value::{Prim, Veto};
 use hp_view::{Mark, View};
 use std::alloc::{AllocError, Global};
-use std::thread::Threads;
 
-impl<R: Threads + Sync> Runner<'_, R> {
+impl<W: Workers> Runner<'_, W> {
     /// Runs a unit's own transaction on the view: the script's body, or the signal of the moment, then the commit event
     /// and the deferred rounds. All of it runs at the clock's moment in the unit.
     pub(crate) fn run_top(&self, view: &mut View, unit: &Unit) -> Result<Top, AllocError>
+        requires ready { W.ready self.now.engine.workers.now }
         ensures { IfOk result (λ t.
             RunsTop (library self.now.engine.lib.now)
             (top (library self.now.engine.lib.now) (now_in (unit_of unit.now)) 0
@@ -48,6 +48,7 @@ impl<R: Threads + Sync> Runner<'_, R> {
     /// Runs a detached task on the view as a top-level transaction of its own, at the task's depth and moment. Its veto
     /// aborts the transaction.
     pub(crate) fn run_detached(&self, view: &mut View, task: &Task) -> Result<Top, AllocError>
+        requires ready { W.ready self.now.engine.workers.now }
         ensures { IfOk result (λ t.
             RunsTop (library self.now.engine.lib.now)
             (top (library self.now.engine.lib.now) (task_of task.now).now (task_of task.now).depth
@@ -69,7 +70,8 @@ impl<R: Threads + Sync> Runner<'_, R> {
         depth: u8,
         time: u64,
     ) -> Result<Top, AllocError>
-        requires { mark ≤ length view.old.undo }
+        requires ready { W.ready self.now.engine.workers.now }
+        requires mark { mark ≤ length view.old.undo }
         ensures { IfOk result (λ t.
             Finishes (library self.now.engine.lib.now) time depth mark view.old view.new
             (course_of course) (top_of t)) }
@@ -98,21 +100,22 @@ pub struct Top {
 /// specification of the crates names this call, too, as the meaning of a top-level transaction.
 ///
 /// An error means that memory ran out; the view, which may have a part of the effects by then, is dropped.
-pub fn run_top<R: Threads + Sync>(
-    rt: &R,
+pub fn run_top<W: Workers>(
+    workers: &W,
     alloc: Global,
     lib: &Library,
     mut view: View,
     unit: &Unit,
     width: usize,
 ) -> Result<(Top, View), AllocError>
+    requires ready { W.ready workers.now }
     ensures { IfOk result (λ r.
         RunsTop (library lib.now)
         (top (library lib.now) (now_in (unit_of unit.now)) 0 (unit_work (library lib.now) (unit_of unit.now)))
         view r.1 (top_of r.0)) }
 {
     let past = Past::new(alloc, lib, width);
-    let top = Runner::new(rt, alloc, lib, width, &past).run_top(&mut view, unit)?;
+    let top = Runner::new(workers, alloc, lib, width, &past).run_top(&mut view, unit)?;
     Ok((top, view))
 }
 

@@ -14,18 +14,18 @@ ghost use Rattle.hp_top.specs.Units.{IsSoundUnit, RanUnit, IsReplayed, IsLawful,
 
 use crate::generations::due;
 use crate::runner::Runner;
-use hp_fire::Past;
+use hp_fire::{Past, Workers};
 use hp_rule::{Library, Unit};
 use hp_store::{Layer, Snapshot, Store};
 use hp_tree::{TopReport, UnitReport};
 use hp_view::{Found, Reads, Seen, View};
 use std::alloc::{AllocError, Global};
 use std::sync::Arc;
-use std::thread::Threads;
 
-impl<R: Threads + Sync> Runner<'_, R> {
+impl<W: Workers> Runner<'_, W> {
     /// Runs a unit on the view: its own transaction, and the cascade of what that detaches. The answer is its report.
     pub(crate) fn run_unit_on(&self, view: &mut View, unit: &Unit) -> Result<UnitReport, AllocError>
+        requires ready { W.ready self.now.engine.workers.now }
         ensures { IfOk result (λ r.
             RunsUnit (library self.now.engine.lib.now) (unit_of unit.now) view.old view.new (unit_report r)) }
     {
@@ -47,6 +47,7 @@ impl<R: Threads + Sync> Runner<'_, R> {
 
     /// Tries a unit on a snapshot.
     pub fn attempt_unit(&self, snapshot: Snapshot, unit: &Unit) -> Result<UnitAttempt, AllocError>
+        requires ready { W.ready self.now.engine.workers.now }
         ensures sound { IfOk result (λ a.
             IsSoundUnit (library self.now.engine.lib.now) (unit_of unit.now) a.reads (changes a.layer.value)
             (unit_report a.report)) }
@@ -69,6 +70,7 @@ impl<R: Threads + Sync> Runner<'_, R> {
     /// changes a second time without such a read in between. A list goes on under the first change at the cost of one
     /// pass over it. An error means that memory ran out; the store is then as before.
     pub fn run_unit(&self, store: &mut Store, unit: &Unit) -> Result<UnitReport, AllocError>
+        requires ready { W.ready self.now.engine.workers.now }
         ensures ran { IfOk result (λ r.
             RanUnit (library self.now.engine.lib.now) (unit_of unit.now) (cells_in store.old) (cells_in store.new)
             (unit_report r)) }
@@ -113,20 +115,21 @@ pub struct UnitAttempt {
 }
 
 /// Tries a unit on a snapshot. Groups of firings use at most `width` threads.
-pub fn attempt_unit<R: Threads + Sync>(
-    rt: &R,
+pub fn attempt_unit<W: Workers>(
+    workers: &W,
     alloc: Global,
     lib: &Library,
     snapshot: Snapshot,
     unit: &Unit,
     width: usize,
 ) -> Result<UnitAttempt, AllocError>
+    requires ready { W.ready workers.now }
     ensures sound { IfOk result (λ a.
         IsSoundUnit (library lib.now) (unit_of unit.now) a.reads (changes a.layer.value) (unit_report a.report)) }
     ensures reads_held { IfOk result (λ a. Holds (cells_in snapshot) a.reads) }
 {
     let past = Past::new(alloc, lib, width);
-    let attempt = Runner::new(rt, alloc, lib, width, &past).attempt_unit(snapshot, unit)?;
+    let attempt = Runner::new(workers, alloc, lib, width, &past).attempt_unit(snapshot, unit)?;
     Ok(attempt)
 }
 
@@ -136,14 +139,15 @@ pub fn attempt_unit<R: Threads + Sync>(
 /// snapshot of it, at a cost that depends only on what they change. A class that the unit read as a whole stays listed
 /// for later units, until one of its objects changes a second time without such a read in between. A list goes on under
 /// the first change at the cost of one pass over it. An error means that memory ran out; the store is then as before.
-pub fn run_unit<R: Threads + Sync>(
-    rt: &R,
+pub fn run_unit<W: Workers>(
+    workers: &W,
     alloc: Global,
     lib: &Library,
     store: &mut Store,
     unit: &Unit,
     width: usize,
 ) -> Result<UnitReport, AllocError>
+    requires ready { W.ready workers.now }
     ensures ran { IfOk result (λ r.
         RanUnit (library lib.now) (unit_of unit.now) (cells_in store.old) (cells_in store.new) (unit_report r)) }
     ensures replayed { IfOk result (λ r.
@@ -156,7 +160,7 @@ pub fn run_unit<R: Threads + Sync>(
     ensures err { OnErr result (store.new ≡ store.old) }
 {
     let past = Past::new(alloc, lib, width);
-    let report = Runner::new(rt, alloc, lib, width, &past).run_unit(store, unit)?;
+    let report = Runner::new(workers, alloc, lib, width, &past).run_unit(store, unit)?;
     Ok(report)
 }
 

@@ -16,7 +16,7 @@ use std::alloc::{AllocError, Global};
 
 /// An item of a channel: first the library whose rules the tasks fire, and then attempts.
 #[derive(Drop)]
-pub(crate) enum Sent<'a> {
+pub enum Sent<'a> {
     /// The library for which the attempts are sound.
     Library(&'a Library),
     /// An attempt.
@@ -24,7 +24,7 @@ pub(crate) enum Sent<'a> {
 }
 
 /// The channel's rule: each attempt is sound for the library that was sent first.
-pub(crate) struct Soundness;
+pub struct Soundness;
 
 impl<'a> Protocol<Sent<'a>> for Soundness {
     ghost use Rattle.hp_fire.specs.Channels.{MayFollow};
@@ -36,7 +36,7 @@ impl<'a> Protocol<Sent<'a>> for Soundness {
 pub(crate) type Sender<'a> = Producer<Sent<'a>, Global, Soundness>;
 
 /// The owner's end of a channel.
-pub(crate) type Receiver<'a> = Consumer<Sent<'a>, Global, Soundness>;
+pub type Receiver<'a> = Consumer<Sent<'a>, Global, Soundness>;
 
 /// The ends of a channel for attempts that are sound for this library.
 pub(crate) fn channel<'a>(

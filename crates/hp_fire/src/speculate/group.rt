@@ -11,29 +11,28 @@ ghost use Rattle.hp_fire.specs.Groups.{IsWave, IsJob, AreOf, ComesInWave};
 ghost use Rattle.hp_fire.specs.Statements.{SiblingsFire, TaskFires};
 
 use crate::course::GroupOutcome;
+use crate::engine::Engine;
 use crate::speculate::channel::Receiver;
 use crate::speculate::extents::share_beneath;
-use crate::speculate::gate::Gate;
 use crate::speculate::past::{Effort, Past};
 use crate::speculate::policy::{do_workers_pay, is_time_to_ask};
 use crate::speculate::progress::Progress;
 use crate::speculate::settled::Settled;
 use crate::speculate::start::{Plan, Start, prepare};
-use crate::speculate::trial::Trial;
 use crate::speculate::wave::{Job, Wave};
+use crate::speculate::workers::{Alone, Workers};
 use hp_attempt::Outcome;
 use hp_board::Seat;
 use hp_rule::{Library, Task};
 use hp_view::View;
 use std::alloc::{AllocError, Global};
-use std::thread::Threads;
 
 /// A group of sibling firings, and what its owner is given.
 ///
 /// All that it knows of a firing is `fire`.
-pub(crate) struct Group<'a, R, G, F> {
-    /// Starts threads.
-    pub(crate) rt: &'a R,
+pub(crate) struct Group<'a, W, F> {
+    /// Who tries tasks ahead of their turn.
+    pub(crate) workers: &'a W,
     /// The allocator.
     pub(crate) alloc: Global,
     /// The library.
@@ -46,9 +45,7 @@ pub(crate) struct Group<'a, R, G, F> {
     pub(crate) width: usize,
     /// Whether workers are started even if they don't pay.
     pub(crate) eager: bool,
-    /// The gate that is notified of the tasks that workers try.
-    pub(crate) gate: &'a G,
-    /// Fires a task on a view. It counts the work, and uses at most the given number of threads.
+    /// Fires a task on a view, on the owner's thread. It counts the work, and uses at most the given number of threads.
     pub(crate) fire: &'a F,
     /// The work of the owner.
     pub(crate) effort: &'a Effort,
@@ -57,22 +54,23 @@ pub(crate) struct Group<'a, R, G, F> {
 }
 
 // By hand, since a derived `clone` copies field by field, and its proof takes as long as that of a long function.
-impl<'a, R, G, F> Clone for Group<'a, R, G, F> {
-    fn clone(&self) -> Result<Group<'a, R, G, F>, AllocError> {
+impl<'a, W, F> Clone for Group<'a, W, F> {
+    fn clone(&self) -> Result<Group<'a, W, F>, AllocError> {
         Ok(*self)
     }
 }
 
-impl<'a, R, G, F> Copy for Group<'a, R, G, F> {}
+impl<'a, W, F> Copy for Group<'a, W, F> {}
 
-impl<
-    R: Threads + Sync,
-    G: Gate + Sync,
-    F: Fn(&mut View, &Task, &Effort, usize) -> Result<Outcome, AllocError> + Sync,
-> Group<'_, R, G, F> {
+impl<W: Workers, F: Fn(&mut View, &Task, &Effort, usize) -> Result<Outcome, AllocError>> Group<
+    '_,
+    W,
+    F,
+> {
     /// Fires the tasks as siblings, in their order. The owner begins alone. With several tasks and threads, and enough
     /// work left, workers try the other tasks ahead of their turn.
     pub(crate) fn run(&self, view: &mut View) -> Result<GroupOutcome, AllocError>
+        requires ready { W.ready self.now.workers.now }
         requires fires { All (MayFire F.Fn self.now.fire.now) self.now.tasks.now }
         requires firings { Fires F.Fn self.now.fire.now (library self.now.lib.now) }
         ensures runs { let stops = self.now.stop_at_veto in
@@ -153,6 +151,7 @@ impl<
     /// Settles at least one task: by a wave if one is due, otherwise by a run on the owner's thread. Then accepts the
     /// front of the attempts.
     fn advance(&self, view: &mut View, progress: &mut Progress) -> Result<(), AllocError>
+        requires ready { W.ready self.now.workers.now }
         requires fires { All (MayFire F.Fn self.now.fire.now) self.now.tasks.now }
         requires firings { Fires F.Fn self.now.fire.now (library self.now.lib.now) }
         requires going { GoesOnBelow progress.old.settled (length self.now.tasks.now) }
@@ -176,6 +175,7 @@ impl<
 
     /// Runs a wave if one is due, which settles tasks from their attempts.
     fn settle_by_wave(&self, view: &mut View, progress: &mut Progress) -> Result<(), AllocError>
+        requires ready { W.ready self.now.workers.now }
         requires fires { All (MayFire F.Fn self.now.fire.now) self.now.tasks.now }
         requires firings { Fires F.Fn self.now.fire.now (library self.now.lib.now) }
         requires going { GoesOnBelow progress.old.settled (length self.now.tasks.now) }
@@ -223,8 +223,7 @@ impl<
         view: &mut View,
         progress: &mut Progress,
     ) -> Result<(), AllocError>
-        requires fires { All (MayFire F.Fn self.now.fire.now) wave.now.tasks.now }
-        requires firings { Fires F.Fn self.now.fire.now (library self.now.lib.now) }
+        requires ready { W.ready self.now.workers.now }
         requires wave { IsWave wave.now }
         requires seat { IsSeatOf wave.now.board.deal seats.0 }
         requires jobs { All (IsJob (library self.now.lib.now) wave.now.board.deal) seats.1.items }
@@ -234,15 +233,17 @@ impl<
         ensures { OnOk result (ComesInWave (library self.now.lib.now) wave.now
             view.old progress.old view.new progress.new) }
     {
-        let trial = Trial {
-            rt: self.rt,
+        let engine = Engine {
+            workers: &Alone,
             alloc: self.alloc,
             lib: self.lib,
-            gate: self.gate,
-            fire: self.fire,
             width: (self.width / (seats.1.len() + 1)).max(1),
+            past: self.past,
+            effort: self.effort,
         };
-        let (found, accepted) = trial.try_all(wave, seats, view, progress, receivers);
+        let (found, accepted) = self
+            .workers
+            .try_all(&engine, wave, seats, view, progress, receivers);
         progress.pending.put_returned(found);
         accepted?;
         progress.accept_sent(self.alloc, wave, view, receivers, 1)

@@ -21,7 +21,7 @@ use std::collections::VecDeque;
 
 /// A worker's attempt at a task.
 #[derive(Drop)]
-pub(crate) struct Tried {
+pub struct Tried {
     /// The task's index in its group.
     pub(crate) index: GroupIndex,
     /// The attempt.

@@ -24,7 +24,7 @@ use std::mem;
 
 /// The progress of a group with workers.
 #[derive(Drop)]
-pub(crate) struct Progress {
+pub struct Progress {
     /// The settled tasks.
     pub(crate) settled: Settled,
     /// The attempts at the other tasks.

@@ -23,7 +23,7 @@ use std::sync::Arc;
 
 /// What the workers of a wave and the owner of the group share.
 #[derive(Drop)]
-pub(crate) struct Wave<'a> {
+pub struct Wave<'a> {
     /// The tasks of the group.
     pub(crate) tasks: &'a [Task],
     /// How many of them were settled before the wave. The wave numbers the others from 0.
@@ -52,7 +52,7 @@ impl Wave<'_> {
 
 /// What one worker is given.
 #[derive(Drop)]
-pub(crate) struct Job<'a> {
+pub struct Job<'a> {
     /// Its seat at the board.
     pub(crate) seat: Seat,
     /// Its end of the channel to the owner.

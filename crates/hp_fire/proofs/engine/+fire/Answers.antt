@@ -1,4 +1,4 @@
-use Rattle.std.proofs.Common.{rules, arith, List, ◌≡◌, ◌<◌, ◌≤◌, refl, ap, sym, ◌∙◌, subst, [], ◌∷◌, map, length, true, false}
+use Rattle.std.proofs.Common.{rules, arith, ◌≡◌, ◌<◌, ◌≤◌, refl, ap, sym, ◌∙◌, subst, [], ◌∷◌, map, length, true, false}
 use Rattle.std.proofs.Common.{SFits, w64, of_z, to_z, Ok}
 use Rattle.std.proofs.lemmas.Int.{to_z-of_z}
 use Rattle.std.proofs.lemmas.Result.{err_from_is_err_and, IfOk-weaker}
@@ -11,7 +11,7 @@ use Rattle.hp_model.specs.Transactions.{abort_by, deferred_of, detached_of, done
 use Rattle.hp_model.specs.Answers.{is_done, followed, group_answer}
 use Rattle.hp_model.specs.Rules as R
 use Rattle.hp_model.specs.Rules.{Body, is_immediate, rule_at}
-use Rattle.hp_model.specs.Firing.{Context, level_at, run_statement, run_body, with_row, with_let, task_environment, action_context, action_course, signal_in, values_of, boolean_value, choose, named_object, siblings, fire_task}
+use Rattle.hp_model.specs.Firing.{level_at, run_statement, run_body, with_row, with_let, task_environment, action_context, action_course, signal_in, values_of, boolean_value, choose, named_object, siblings, fire_task}
 use Rattle.hp_value.specs.Mapped.{keyed_row, value, expression, primitive, rule_operation}
 use Rattle.hp_query.specs.Mapped.{aggregate, findings, keyed_rows}
 use Rattle.hp_rule.specs.declared.stmt.Stmt.TheViews.{the_lemmas}
@@ -30,12 +30,6 @@ use Rattle.hp_fire.proofs.Making.{steps_halt}
 use Rattle.hp_fire.proofs.Stating.{with_is, veto_is, findings_now, body_under, steps_at, runs_at, signal_makes, found_halt, found_steps}
 use Rattle.hp_fire.proofs.Steps.{runs_answer, runs_ends, runs_value, found_value, sub_over, sub_then, body_each, loop_starts, loop_next, loop_stops, loop_ends, lone_runs}
 use Rattle.hp_fire.proofs.Starting.{signal_starts, signal_ready, then_starts, are_ready, start_none, start_single, single_measure, start_runs, group_measure, none_long, map_none, tasks_at}
-use denote.Param.{param}
-use denote.Param.Send.{IsSync, param_sync, sendable}
-use denote.Ref.{NamedLft}
-use Rattle.std.proofs.Crossing as heap
-use Rattle.hp_fire.specs.contracts.engine.Engine as EngineRow
-use Rattle.hp_fire.proofs.Sending.{engine_sync}
 use Rattle.hp_fire.proofs.engine.+fire.Goals as goal
 
 -- ---- a lone statement
@@ -142,13 +136,13 @@ Engine::start-returns-then-is_empty g t c = λ work before starts.
 pub Engine::start-fire_task-requires : goal.Engine::start-fire_task-requires
 Engine::start-fire_task-requires g t c = λ κs lives.
     let is : c.args.tasks ≡ Ok c.in_ok-tasks.tasks = search rules in
-    let ready = are_ready c.args.self.now.lib.now c.args.depth c.args.tasks c.in_ok-tasks.tasks is c.requires in
+    let ready = are_ready c.args.self.now.lib.now c.args.depth c.args.tasks c.in_ok-tasks.tasks is c.requires.tasks in
     (omega (arith, single_measure c.args.self.now.lib.now c.args.depth c.in_ok-tasks.tasks.items c.in-Ok.task ready (ap (map task) c.in-Ok.ensures.one.0), c.decreases), (lives, search rules))
 
 pub Engine::start-returns-in-Ok : goal.Engine::start-returns-in-Ok
 Engine::start-returns-in-Ok g t c = λ work before starts.
     let is : c.args.tasks ≡ Ok c.in_ok-tasks.tasks = search rules in
-    let ready = are_ready c.args.self.now.lib.now c.args.depth c.args.tasks c.in_ok-tasks.tasks is c.requires in
+    let ready = are_ready c.args.self.now.lib.now c.args.depth c.args.tasks c.in_ok-tasks.tasks is c.requires.tasks in
     (then_starts c.args.self.now.lib.now c.args.depth work before c.args.view.now c.args.tasks c.in_ok-tasks.tasks is starts).then_runs
     (runs_answer c.firing_course.ensures
     (start_single (map task c.in_ok-tasks.tasks.items) (task c.in-Ok.task) ready (ap (map task) c.in-Ok.ensures.one.0) c.in-Ok.ensures.one.1 c.in_ok-outcome-in-Ok.ensures))
@@ -156,18 +150,18 @@ Engine::start-returns-in-Ok g t c = λ work before starts.
 pub Engine::start-fire_group-requires : goal.Engine::start-fire_group-requires
 Engine::start-fire_group-requires g t c = λ κs lives.
     let is : c.args.tasks ≡ Ok c.in_ok-tasks.tasks = search rules in
-    let ready = are_ready c.args.self.now.lib.now c.args.depth c.args.tasks c.in_ok-tasks.tasks is c.requires in
+    let ready = are_ready c.args.self.now.lib.now c.args.depth c.args.tasks c.in_ok-tasks.tasks is c.requires.tasks in
     let long : length c.in_ok-tasks.tasks.items ≡ c.in_ok-tasks.tasks.len = search rules in
     let some : c.in_ok-tasks.tasks.items ≡ [] → ⊥ = λ e. let zero : c.in_ok-tasks.tasks.len ≡ 0 = sym long ∙ ap length e in search rules in
     let now : map task c.deref.result.now ≡ filter (λ (u : Task). is_immediate u.place) (map task c.in_ok-tasks.tasks.items) = ap (map task) c.deref.ensures.value ∙ c.in_ok-placed.ensures.immediate ∙ ap (λ ts. filter (λ (u : Task). is_immediate u.place) (map task ts)) c.in-Err.ensures.others in
     let falls = group_measure c.args.self.now.lib.now c.args.depth c.in_ok-tasks.tasks.items ready some in
     let at = tasks_at c.args.depth c.in_ok-tasks.tasks.items c.deref.result.now ready now in
-    (omega (arith, falls, c.decreases), (lives, search (at, rules)))
+    (omega (arith, falls, c.decreases), (lives, (search rules, search (at, rules))))
 
 pub Engine::start-returns : goal.Engine::start-returns
 Engine::start-returns g t c = λ work before starts.
     let is : c.args.tasks ≡ Ok c.in_ok-tasks.tasks = search rules in
-    let ready = are_ready c.args.self.now.lib.now c.args.depth c.args.tasks c.in_ok-tasks.tasks is c.requires in
+    let ready = are_ready c.args.self.now.lib.now c.args.depth c.args.tasks c.in_ok-tasks.tasks is c.requires.tasks in
     let long : length c.in_ok-tasks.tasks.items ≡ c.in_ok-tasks.tasks.len = search rules in
     let some : c.in_ok-tasks.tasks.items ≡ [] → ⊥ = λ e. let zero : c.in_ok-tasks.tasks.len ≡ 0 = sym long ∙ ap length e in search rules in
     let same = c.in-Err.ensures.others in
@@ -178,12 +172,6 @@ Engine::start-returns g t c = λ work before starts.
     (runs_answer (c.in_ok-course.ensures ∙ (λ i. followed (record { end = done; queued = queued i; detached = apart i; items = no_items }) (group_answer (group c.in_ok-group.group))))
     (start_runs (map task c.in_ok-tasks.tasks.items) ready (λ e. some (map_none task c.in_ok-tasks.tasks.items e))
     (subst (λ ts. RunsGroup (library c.args.self.now.lib.now) (siblings (fire_task (library c.args.self.now.lib.now)) true ts) c.args.view.now c.fire_group.new.view (group c.in_ok-group.group)) now c.in_ok-group.ensures)))
-
-pub Engine::fire_group-run-requires-sync-F : goal.Engine::fire_group-run-requires-sync-F
-Engine::fire_group-run-requires-sync-F g t c = λ κs lives.
-    let r : IsSync g.row.R = search rules in
-    let engine : (κ : NamedLft) → IsSync (EngineRow.the_row κ (param 0 g.row.R)) = λ κ. engine_sync κ (param 0 g.row.R) (param_sync 0 g.row.R r) in
-    search (engine, heap.crosses, sendable) depth 30 fits 20000
 
 -- ---- the statements
 

@@ -1,4 +1,3 @@
-use Rattle.std.proofs.Common.{rules}
 use Rattle.std.proofs.lemmas.Result.{IfOk-weaker}
 use Rattle.hp_model.specs.Firing.{level_at, signal_in}
 use Rattle.hp_value.specs.Mapped.{primitive}
@@ -6,9 +5,9 @@ use Rattle.hp_rule.specs.Mapped.{library}
 use Rattle.hp_fire.proofs.Starting.{signal_starts, signal_ready}
 use Rattle.hp_fire.proofs.engine.Engine.run_signal.Goals as goal
 
-pub start-result-requires : goal.start-result-requires
-start-result-requires g c =
-    (search rules, signal_ready c.args.self.now.lib.now c.args.time c.args.depth (primitive c.args.prim.now) c.args.view.now c.trigger-tasks.new.view c.trigger-tasks.result c.trigger-tasks.ensures.triggers)
+pub start-result-requires-clause-tasks : goal.start-result-requires-clause-tasks
+start-result-requires-clause-tasks g c =
+    signal_ready c.args.self.now.lib.now c.args.time c.args.depth (primitive c.args.prim.now) c.args.view.now c.trigger-tasks.new.view c.trigger-tasks.result c.trigger-tasks.ensures.triggers
 
 pub returns : goal.returns
 returns g c =

@@ -16,4 +16,4 @@ returns g c =
     let so_far = course c.args.course in
     subst (λ a. IsRound L c.args.view.now c.run_siblings.new.view (course c.args.course) a)
     (sym (c.in_ok-join.ensures ∙ (λ i. followed (record { end = done; queued = ap (map task) c.new.ensures.items i; detached = so_far.detached; items = so_far.items }) (c.in_ok-next.ensures i))))
-    (one_round (course c.args.course) c.requires ran)
+    (one_round (course c.args.course) c.requires.unsettled ran)

@@ -17,7 +17,7 @@ returns-in_default g c =
     wave_none c.args.progress.now _ c.in_ok-share_beneath.ensures refl c.requires.going.0 c.requires.counted (c.drop_first_and_stale.ensures (library c.args.self.now.lib.now) c.requires.sound)
 
 pub run_wave-requires-clause-sound : goal.run_wave-requires-clause-sound
-run_wave-requires-clause-sound g c κs within =
+run_wave-requires-clause-sound g c =
     let lib = library c.args.self.now.lib.now in
     subst (λ (p : Progress). AreSound lib p.pending.attempts.items) (sym c.begin_wave.ensures.same) (c.drop_first_and_stale.ensures lib c.requires.sound)
 
