@@ -39,12 +39,14 @@ ahead_then p q r a b = record {
       b.none (omega (arith, first, e)) (a.none first was);
 }
   where
-    by : length p.settled.outcomes.items < length r.settled.outcomes.items → IsRetried p.counts (length p.settled.outcomes.items) → (length p.settled.outcomes.items < length q.settled.outcomes.items) ⊎ (length q.settled.outcomes.items ≤ length p.settled.outcomes.items)
+    by : length p.settled.outcomes.items < length r.settled.outcomes.items → IsRetried p.counts (length p.settled.outcomes.items)
+        → (length p.settled.outcomes.items < length q.settled.outcomes.items) ⊎ (length q.settled.outcomes.items ≤ length p.settled.outcomes.items)
         → r.counts.accepted + length p.settled.outcomes.items < p.counts.accepted + length r.settled.outcomes.items
     by less is (inl early) = let one = a.reran early is in omega (arith, one, b.accepted)
     by less is (inr late) =
         let first : length p.settled.outcomes.items ≡ length q.settled.outcomes.items = omega (arith, a.longer, late) in
-        let still : IsRetried q.counts (length q.settled.outcomes.items) = subst (IsRetried q.counts) first (subst (λ rs. slice_index_or rs.items (length p.settled.outcomes.items) true ≡ true) (sym a.retried) is) in
+        let still : IsRetried q.counts (length q.settled.outcomes.items) =
+        subst (IsRetried q.counts) first (subst (λ rs. slice_index_or rs.items (length p.settled.outcomes.items) true ≡ true) (sym a.retried) is) in
         let one = b.reran (omega (arith, first, less)) still in
         omega (arith, one, a.accepted)
 
@@ -53,7 +55,8 @@ pub ahead_same : (p : Progress) → IsAhead p p
 ahead_same p = ahead_put p p refl
 
 -- the front of the attempts, of this length, is accepted
-pub ahead_settled : (p q : Progress) (n : ℕ) → length q.settled.outcomes.items ≡ length p.settled.outcomes.items + n → (n ≡ 0 → q.settled.end ≡ None) → (q.counts.waves ≡ p.counts.waves) × (q.counts.retried ≡ p.counts.retried)
+pub ahead_settled : (p q : Progress) (n : ℕ) → length q.settled.outcomes.items ≡ length p.settled.outcomes.items + n → (n ≡ 0 → q.settled.end ≡ None)
+    → (q.counts.waves ≡ p.counts.waves) × (q.counts.retried ≡ p.counts.retried)
     → q.counts.accepted ≤ p.counts.accepted + n → (0 < n → IsRetried p.counts (length p.settled.outcomes.items) → q.counts.accepted < p.counts.accepted + n) → IsAhead p q
 ahead_settled p q n longer none same accepted reran = record {
   longer = omega (arith, longer);
@@ -96,7 +99,8 @@ module _ {library : Library} {stops : Bool} {tasks : List Task} where
   comes_same v p sound = comes_put v p p refl sound
 
   -- no wave has begun
-  pub wave_none : {v w : Seeing} (p q : Progress) → w ≡ v → q ≡ record p { pending = q.pending } → p.settled.end ≡ None → IsCounted p → AreSound library q.pending.attempts.items → ComesByWave library stops tasks v p w q
+  pub wave_none : {v w : Seeing} (p q : Progress) → w ≡ v → q ≡ record p { pending = q.pending } → p.settled.end ≡ None → IsCounted p → AreSound library q.pending.attempts.items
+      → ComesByWave library stops tasks v p w q
   wave_none {v} {w} p q same e none counted sound =
       let long : length q.settled.outcomes.items ≡ length p.settled.outcomes.items = ap (λ (x : Progress). length x.settled.outcomes.items) e in
       let accepted : q.counts.accepted ≡ p.counts.accepted = ap (λ (x : Progress). x.counts.accepted) e in
@@ -112,7 +116,8 @@ module _ {library : Library} {stops : Bool} {tasks : List Task} where
       }
 
   -- a wave has run
-  pub wave_ran : {v u w : Seeing} (p b q : Progress) → u ≡ v → b.settled ≡ p.settled → (b.counts.accepted ≡ p.counts.accepted) × (b.counts.waves ≡ p.counts.waves + 1) → (0 < p.counts.waves → IsRetried b.counts (length p.settled.outcomes.items))
+  pub wave_ran : {v u w : Seeing} (p b q : Progress) → u ≡ v → b.settled ≡ p.settled → (b.counts.accepted ≡ p.counts.accepted) × (b.counts.waves ≡ p.counts.waves + 1)
+      → (0 < p.counts.waves → IsRetried b.counts (length p.settled.outcomes.items))
       → p.settled.end ≡ None → IsCounted p → Comes library stops tasks u b w q → ComesByWave library stops tasks v p w q
   wave_ran {v} {u} {w} p b q same settled counts retried none counted came = record {
     longer = omega (arith, long, came.ahead.longer);

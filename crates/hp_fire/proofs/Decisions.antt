@@ -54,7 +54,8 @@ unsatisfied_over library t o view is =
     subst (RunsFiring library (decide unsatisfied (level_at library t.now t.depth) t) view view) (sym is)
     (record { goes_on = GoesOn-same view; faithful = faithful_inert (fire_node t.rule t.place without_action) None })
 
-pub faulty_over : (library : Library) (t : Task) (c : Cause) (o : FiringAnswer) (view : Seeing) → o ≡ standing (fire_node t.rule t.place (with_fault c)) (fault_veto (rule_at library t.rule).closed t.rule)
+pub faulty_over : (library : Library) (t : Task) (c : Cause) (o : FiringAnswer) (view : Seeing)
+    → o ≡ standing (fire_node t.rule t.place (with_fault c)) (fault_veto (rule_at library t.rule).closed t.rule)
     → RunsFiring library (decide (faulty c) (level_at library t.now t.depth) t) view view o
 faulty_over library t c o view is =
     subst (RunsFiring library (decide (faulty c) (level_at library t.now t.depth) t) view view) (sym is)
@@ -86,7 +87,8 @@ condition_decides library t v old new (Acts node found) step only finds p = cond
 
 -- ---- actions
 
-pub action_acts : (library : Library) (t : Task) (found : Findings) (view : Seeing) → t.step ≡ action_step found → ThenActs library (λ S. fire_task library S t) t view view (act_node t.rule t.place) found
+pub action_acts : (library : Library) (t : Task) (found : Findings) (view : Seeing) → t.step ≡ action_step found
+    → ThenActs library (λ S. fire_task library S t) t view view (act_node t.rule t.place) found
 action_acts library t found view step = record {
   goes_on = GoesOn-same view;
   then_action = λ {more} {after} {f} more_reads p.

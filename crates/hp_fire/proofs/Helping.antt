@@ -1,5 +1,6 @@
 -- Groups with workers.
-use Rattle.std.proofs.Common.{arith, ◌⊎◌, inl, inr, ◌≡◌, refl, sym, ap, ◌∙◌, subst, ℕ, zero, suc, ◌-◌, ◌<◌, ◌≤◌, Bool, true, false, List, [], ◌∷◌, ◌++◌, length, take, drop, map, Option, Some, None, IfSome, slice_set, slice_get, length-append}
+use Rattle.std.proofs.Common.{arith, ◌⊎◌, inl, inr, ◌≡◌, refl, sym, ap, ◌∙◌, subst, ℕ, zero, suc, ◌-◌, ◌<◌, ◌≤◌, Bool, true, false, List, [], ◌∷◌, ◌++◌, length, take, drop, map}
+use Rattle.std.proofs.Common.{Option, Some, None, IfSome, slice_set, slice_get, length-append}
 use Rattle.std.specs.Prelude.{option_map}
 use Rattle.std.proofs.lemmas.Bool.{cases_lt}
 use Rattle.std.proofs.lemmas.List.Elements.{All-append, All-cons, All-nil}
@@ -123,24 +124,31 @@ module _ {library : Library} {stops : Bool} {tasks : List Task} {first : Seeing}
   so_far_begins = record { goes_on = GoesOn-same first; goes = λ _. record { by = λ more after g more_reads p. p }; stopped = λ r e. cc }
 
   pub so_far_starts : (outcomes : List Outcome) (end : Option Veto) → outcomes ≡ [] → end ≡ None → IsSoFar library stops tasks first first outcomes end
-  so_far_starts outcomes end no_outcomes none = subst (λ os. IsSoFar library stops tasks first first os end) (sym no_outcomes) (subst (IsSoFar library stops tasks first first []) (sym none) so_far_begins)
+  so_far_starts outcomes end no_outcomes none = subst (λ os. IsSoFar library stops tasks first first os end) (sym no_outcomes)
+      (subst (IsSoFar library stops tasks first first []) (sym none) so_far_begins)
 
   pub so_far_front : {now then : Seeing} (outcomes front : List Outcome) (attempts : List (Option Attempt)) → IsSoFar library stops tasks first now outcomes None → GoesOn now then
-      → FrontIs stops (drop (length outcomes) tasks) attempts front now then → AreSound library (take (length front) attempts) → IsSoFar library stops tasks first then (outcomes ++ front) (stopped_by stops front)
+      → FrontIs stops (drop (length outcomes) tasks) attempts front now then → AreSound library (take (length front) attempts)
+      → IsSoFar library stops tasks first then (outcomes ++ front) (stopped_by stops front)
   so_far_front {now} {then} outcomes front attempts s on front_is sound = record {
     goes_on = GoesOn-then s.goes_on on;
     goes = λ e.
-        subst (λ fs. GroupCompletes library (fire_task library) stops tasks (written first) (drop (length (outcomes ++ front)) tasks) then.reads (written then) fs) (sym (map-append firing outcomes front))
-        (subst (λ ts. GroupCompletes library (fire_task library) stops tasks (written first) ts then.reads (written then) (map firing outcomes ++ map firing front)) (sym (left_after tasks outcomes front))
+        subst (λ fs. GroupCompletes library (fire_task library) stops tasks (written first) (drop (length (outcomes ++ front)) tasks) then.reads (written then) fs)
+        (sym (map-append firing outcomes front))
+        (subst (λ ts. GroupCompletes library (fire_task library) stops tasks (written first) ts then.reads (written then) (map firing outcomes ++ map firing front))
+        (sym (left_after tasks outcomes front))
         (front_completes library stops tasks (drop (length outcomes) tasks) (written first) attempts front (s.goes refl) on front_is sound e));
     stopped = λ r e.
-        subst (λ fs. FaithfulSiblings library (siblings (fire_task library) stops tasks) then.reads (written first) (written then) (record { firings = fs; vetoed_by = Some r })) (sym (map-append firing outcomes front))
+        subst (λ fs. FaithfulSiblings library (siblings (fire_task library) stops tasks) then.reads (written first) (written then) (record { firings = fs; vetoed_by = Some r }))
+        (sym (map-append firing outcomes front))
         (front_stops library stops tasks (drop (length outcomes) tasks) (written first) attempts front (s.goes refl) on front_is sound r e);
   }
 
   -- the same at an index of the tasks
-  pub so_far_settled : {now then : Seeing} (outcomes front all : List Outcome) (end after : Option Veto) (left : List Task) (attempts : List (Option Attempt)) → end ≡ None → left ≡ drop (length outcomes) tasks
-      → all ≡ outcomes ++ front → after ≡ stopped_by stops front → IsSoFar library stops tasks first now outcomes end → GoesOn now then → FrontIs stops left attempts front now then → AreSound library attempts
+  pub so_far_settled : {now then : Seeing} (outcomes front all : List Outcome) (end after : Option Veto) (left : List Task) (attempts : List (Option Attempt))
+      → end ≡ None → left ≡ drop (length outcomes) tasks
+      → all ≡ outcomes ++ front → after ≡ stopped_by stops front → IsSoFar library stops tasks first now outcomes end → GoesOn now then
+      → FrontIs stops left attempts front now then → AreSound library attempts
       → IsSoFar library stops tasks first then all after
   so_far_settled {now} {then} outcomes front all end after left attempts none left_is all_is after_is s on front_is sound =
       subst (λ os. IsSoFar library stops tasks first then os after) (sym all_is)
@@ -155,11 +163,14 @@ module _ {library : Library} {stops : Bool} {tasks : List Task} {first : Seeing}
   so_far_run {now} {then} outcomes t ts o here s r = record {
     goes_on = GoesOn-then s.goes_on r.goes_on;
     goes = λ e.
-        subst (λ fs. GroupCompletes library (fire_task library) stops tasks (written first) (drop (length (outcomes ++ o ∷ [])) tasks) then.reads (written then) fs) (sym (map-append firing outcomes (o ∷ [])))
-        (subst (λ us. GroupCompletes library (fire_task library) stops tasks (written first) us then.reads (written then) (map firing outcomes ++ firing o ∷ [])) (sym (left_after tasks outcomes (o ∷ []) ∙ ap (drop 1) here))
+        subst (λ fs. GroupCompletes library (fire_task library) stops tasks (written first) (drop (length (outcomes ++ o ∷ [])) tasks) then.reads (written then) fs)
+        (sym (map-append firing outcomes (o ∷ [])))
+        (subst (λ us. GroupCompletes library (fire_task library) stops tasks (written first) us then.reads (written then) (map firing outcomes ++ firing o ∷ []))
+        (sym (left_after tasks outcomes (o ∷ []) ∙ ap (drop 1) here))
         (group_more library (fire_task library) stops tasks (written first) (on stops (veto_in o) (sym (stopped_one stops o) ∙ e)) (grows r.goes_on) at_first r.faithful));
     stopped = λ n e.
-        subst (λ fs. FaithfulSiblings library (siblings (fire_task library) stops tasks) then.reads (written first) (written then) (record { firings = fs; vetoed_by = Some n })) (sym (map-append firing outcomes (o ∷ [])))
+        subst (λ fs. FaithfulSiblings library (siblings (fire_task library) stops tasks) then.reads (written first) (written then) (record { firings = fs; vetoed_by = Some n }))
+        (sym (map-append firing outcomes (o ∷ [])))
         (halts stops n e at_first);
   }
     where
@@ -177,8 +188,10 @@ module _ {library : Library} {stops : Bool} {tasks : List Task} {first : Seeing}
       halts false n e c = cc
 
   -- the same at an index of the tasks
-  pub so_far_ran : {now then : Seeing} (outcomes all : List Outcome) (end after : Option Veto) (t : Task) (ts : List Task) (o : Outcome) → end ≡ None → drop (length outcomes) tasks ≡ t ∷ ts → all ≡ outcomes ++ o ∷ []
-      → after ≡ stopped_by stops (o ∷ []) → IsSoFar library stops tasks first now outcomes end → RunsFiring library (λ S. fire_task library S t) now then (firing o) → IsSoFar library stops tasks first then all after
+  pub so_far_ran : {now then : Seeing} (outcomes all : List Outcome) (end after : Option Veto) (t : Task) (ts : List Task) (o : Outcome) → end ≡ None
+      → drop (length outcomes) tasks ≡ t ∷ ts → all ≡ outcomes ++ o ∷ []
+      → after ≡ stopped_by stops (o ∷ []) → IsSoFar library stops tasks first now outcomes end → RunsFiring library (λ S. fire_task library S t) now then (firing o)
+      → IsSoFar library stops tasks first then all after
   so_far_ran {now} {then} outcomes all end after t ts o none here all_is after_is s r =
       subst (λ os. IsSoFar library stops tasks first then os after) (sym all_is)
       (subst (IsSoFar library stops tasks first then (outcomes ++ o ∷ [])) (sym after_is) (so_far_run outcomes t ts o here (subst (IsSoFar library stops tasks first now outcomes) none s) r))

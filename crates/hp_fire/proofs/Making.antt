@@ -14,7 +14,8 @@ use Rattle.hp_model.specs.Soundness.{Answer}
 use Rattle.hp_model.specs.Answers.{FaithfulWork, Finds, ended, tells, followed}
 use Rattle.hp_model.specs.Operations.{Operated, FaithfulOperation, create_object, update_object, delete_object, set_rule, operation_items}
 use Rattle.hp_model.proofs.Faithful.{Grows, faithful_as, faithful_items}
-use Rattle.hp_model.proofs.FaithfulOperations.{faithful_create_refused, faithful_create_made, faithful_update_refused, faithful_update_made, faithful_delete_refused, faithful_delete_made, faithful_rule_statement, faithful_rule_statement_refused}
+use Rattle.hp_model.proofs.FaithfulOperations.{faithful_create_refused, faithful_create_made, faithful_update_refused, faithful_update_made, faithful_delete_refused}
+use Rattle.hp_model.proofs.FaithfulOperations.{faithful_delete_made, faithful_rule_statement, faithful_rule_statement_refused}
 use Rattle.hp_model.proofs.BridgesKeys.{ObjectsRise}
 use Rattle.hp_value.specs.declared.halt.Halt.{Halt}
 use Rattle.hp_value.specs.declared.halt.Halt.TheVariants.{Cause as ByCause, Memory}
@@ -31,7 +32,8 @@ use Rattle.hp_fire.proofs.Steps.{runs_as, runs_cause, runs_value}
 -- ---- values that don't depend on the state
 
 -- a statement whose value is a cause, or for which memory ran out
-pub steps_halt : {A B : Type 0} (f : A → B) (next : State → B → Work) (o : Outcome B) (h : Halt) (library : Library) (v : Seeing) → Meets f (Err h) o → Steps library (λ S. with_value o (next S) S) v v (Err h)
+pub steps_halt : {A B : Type 0} (f : A → B) (next : State → B → Work) (o : Outcome B) (h : Halt) (library : Library) (v : Seeing) → Meets f (Err h) o
+    → Steps library (λ S. with_value o (next S) S) v v (Err h)
 steps_halt f next o (ByCause c) library v is = runs_cause next o (cause c) v is
 steps_halt f next o Memory library v is = tt
 
@@ -50,7 +52,8 @@ makes_as g one other library level v w (Err Memory) same m = tt
 
 module _ {X : Type 0} (g : X → Primitive) (library : Library) (level : Level) (work : Work) (run : State → Operated Primitive)
     (refused : (reads : List Read) (before after : Changes) (c : Cause) → FaithfulOperation library run reads before after (Err c) → FaithfulWork library work reads before after (ended (abort_by c)))
-    (made : (reads more : List Read) (w0 w1 w2 : Changes) (p : Primitive) (a : Answer) → Grows reads more → FaithfulOperation library run reads w0 w1 (Ok p) → FaithfulWork library (signal_in level p) more w1 w2 a
+    (made : (reads more : List Read) (w0 w1 w2 : Changes) (p : Primitive) (a : Answer) → Grows reads more → FaithfulOperation library run reads w0 w1 (Ok p)
+    → FaithfulWork library (signal_in level p) more w1 w2 a
     → FaithfulWork library work more w0 w2 (followed (tells (without_detachments (operation_items p))) a)) where
   operation_makes : (v w : Seeing) (result : Result X Halt) → GoesOn v w → Performs g library run v w result → Makes g library level work v w result
   operation_makes v w (Ok p) on performs = record { goes_on = on; then_signal = λ grows q. made _ _ _ _ _ _ _ grows performs q }
@@ -65,7 +68,8 @@ module _ {X : Type 0} (g : X → Primitive) (library : Library) (level : Level) 
       makes_as g (λ S. created_if_absent level class r.key r.row (find_object S.objects class r.key) S) (run_statement (create class key pairs) level context) library level v w result
       (λ S. ap (λ (o : Outcome KeyedRow). with_value o (λ k. created_if_absent level class k.key k.row (find_object S.objects class k.key)) S) (sym is))
       (operation_makes g library level (λ S. created_if_absent level class r.key r.row (find_object S.objects class r.key) S) (create_object class r.key r.row)
-      (λ reads before after c p. faithful_create_refused level class r.key r.row p) (λ reads more w0 w1 w2 p a grows q h. faithful_create_made level class r.key r.row grows q h) v w result on performs)
+      (λ reads before after c p. faithful_create_refused level class r.key r.row p) (λ reads more w0 w1 w2 p a grows q h. faithful_create_made level class r.key r.row grows q h)
+      v w result on performs)
 
   pub update_makes : (pairs : List Assignment) (r : KeyedRow) (v w : Seeing) (result : Result X Halt)
       → Ok r ≡ keyed_row context.environment key pairs (checked_kinds (class_at level.library class).fields) → GoesOn v w → Performs g library (update_object class r.key r.row) v w result
@@ -74,7 +78,8 @@ module _ {X : Type 0} (g : X → Primitive) (library : Library) (level : Level) 
       makes_as g (λ S. updated_if_present level class r.key r.row (find_object S.objects class r.key) S) (run_statement (update class key pairs) level context) library level v w result
       (λ S. ap (λ (o : Outcome KeyedRow). with_value o (λ k. updated_if_present level class k.key k.row (find_object S.objects class k.key)) S) (sym is))
       (operation_makes g library level (λ S. updated_if_present level class r.key r.row (find_object S.objects class r.key) S) (update_object class r.key r.row)
-      (λ reads before after c p. faithful_update_refused level class r.key r.row p) (λ reads more w0 w1 w2 p a grows q h. faithful_update_made level class r.key r.row grows q h) v w result on performs)
+      (λ reads before after c p. faithful_update_refused level class r.key r.row p) (λ reads more w0 w1 w2 p a grows q h. faithful_update_made level class r.key r.row grows q h)
+      v w result on performs)
 
   pub delete_makes : (k : ℤ) (v w : Seeing) (result : Result X Halt) → Ok k ≡ integer_value context.environment key → GoesOn v w → Performs g library (delete_object class k) v w result
       → Makes g library level (run_statement (delete class key) level context) v w result
@@ -140,11 +145,13 @@ pub emit_runs : (library : Library) (level : Level) (context : Context) (e : Exp
 emit_runs library level context e v view is =
     runs_value (λ x. with_items (emission x no_items)) (value_of context.environment e) v is (record { goes_on = GoesOn-same view; faithful = faithful_items (emission v no_items) })
 
-pub rule_halt : (library : Library) (level : Level) (context : Context) (op : RuleOperation) (n : ℕ) (h : Halt) (v w : Seeing) → GoesOn v w → Performs (λ (u : ⊤). tt) library (set_rule op n) v w (Err h)
+pub rule_halt : (library : Library) (level : Level) (context : Context) (op : RuleOperation) (n : ℕ) (h : Halt) (v w : Seeing) → GoesOn v w
+    → Performs (λ (u : ⊤). tt) library (set_rule op n) v w (Err h)
     → Steps library (run_statement (on_rule op n) level context) v w (Err h)
 rule_halt library level context op n (ByCause c) v w on performs = record { goes_on = on; faithful = faithful_rule_statement_refused op n performs }
 rule_halt library level context op n Memory v w on performs = tt
 
-pub rule_runs : (library : Library) (level : Level) (context : Context) (op : RuleOperation) (n : ℕ) (v w : Seeing) → GoesOn v w → FaithfulOperation library (set_rule op n) w.reads (written v) (written w) (Ok tt)
+pub rule_runs : (library : Library) (level : Level) (context : Context) (op : RuleOperation) (n : ℕ) (v w : Seeing) → GoesOn v w
+    → FaithfulOperation library (set_rule op n) w.reads (written v) (written w) (Ok tt)
     → Runs library (run_statement (on_rule op n) level context) v w (tells (operation (rule_op op n) no_items))
 rule_runs library level context op n v w on performs = record { goes_on = on; faithful = faithful_rule_statement op n performs }

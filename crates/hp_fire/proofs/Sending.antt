@@ -198,10 +198,24 @@ outcome_send = search (item_send, veto.the_send, task.the_send, detached.the_sen
 pub attempt_send : IsSend Attempt.the_field.row
 attempt_send = search (outcome_send, task_send, reads_send, layer_send, layer_sync, heap.crosses, sendable) depth 12
 
-ruleset expression_parts = (value.the_sync, asked.the_sync, arithmetic.the_sync, comparison.the_sync, pattern.the_sync, class.the_sync, rule_lists.the_sync, coupling.the_sync, operation_word.the_sync, heap.crosses, maps.crosses, sendable)
+ruleset expression_parts = (
+  value.the_sync,
+  asked.the_sync,
+  arithmetic.the_sync,
+  comparison.the_sync,
+  pattern.the_sync,
+  class.the_sync,
+  rule_lists.the_sync,
+  coupling.the_sync,
+  operation_word.the_sync,
+  heap.crosses,
+  maps.crosses,
+  sendable,
+)
 
 pub expr_sync : IsSync Expr.the_field.row
-expr_sync = expr.sync-Expr (search expression_parts depth 12) (search expression_parts depth 12) heap.Box-sync (search expression_parts depth 12) (search expression_parts depth 12) (search expression_parts depth 12)
+expr_sync = expr.sync-Expr (search expression_parts depth 12) (search expression_parts depth 12) heap.Box-sync (search expression_parts depth 12)
+    (search expression_parts depth 12) (search expression_parts depth 12)
 
 event_send : IsSend EventExpr.the_field.row
 event_send = event.send-EventExpr (search (maps.crosses, heap.crosses, sendable) depth 12) heap.Box-send
@@ -224,7 +238,8 @@ entry_sync = search (query_sync, aggregate_sync, expression_parts) depth 12
 ruleset statement_parts = (expr_sync, assignment_sync, aggregate_sync, expression_parts)
 
 pub stmt_sync : IsSync Stmt.the_field.row
-stmt_sync = stmt.sync-Stmt (search statement_parts depth 12) (search statement_parts depth 12) (search statement_parts depth 12) (search statement_parts depth 12) (search statement_parts depth 12) heap.Vec-sync (search statement_parts depth 12) (search statement_parts depth 12) (search statement_parts depth 12)
+stmt_sync = stmt.sync-Stmt (search statement_parts depth 12) (search statement_parts depth 12) (search statement_parts depth 12) (search statement_parts depth 12)
+    (search statement_parts depth 12) heap.Vec-sync (search statement_parts depth 12) (search statement_parts depth 12) (search statement_parts depth 12)
 
 rule_sync : IsSync Rule.the_field.row
 rule_sync = search (event_send, event_sync, entry_sync, stmt_sync, expression_parts) depth 30 fits 20000
@@ -247,8 +262,16 @@ layer_row_sync = search layer_parts depth 12
 
 pub trial_sync : (κ : NamedLft) (R G T : RattleType) → IsSync R → IsSync G → IsSync T → IsSync (Trial.the_row κ R G T)
 trial_sync κ R G T r g t =
-    declared_sync (Trial.the_type κ R G T)
-    (search (r, g, t, sendable) depth 12, (search (heap.sync, sendable) depth 12, (as_row_sync (shr_ref_field κ Library.the_row tt) (shr_sync κ.mir κ.lft Library.the_row library_row), (search (r, g, t, sendable) depth 12, (search (r, g, t, sendable) depth 12, (search sendable depth 12, tt))))))
+    declared_sync (Trial.the_type κ R G T) (
+      search (r, g, t, sendable) depth 12,
+      (
+        search (heap.sync, sendable) depth 12,
+        (
+          as_row_sync (shr_ref_field κ Library.the_row tt) (shr_sync κ.mir κ.lft Library.the_row library_row),
+          (search (r, g, t, sendable) depth 12, (search (r, g, t, sendable) depth 12, (search sendable depth 12, tt))),
+        ),
+      ),
+    )
 
 past_row : IsSync Past.the_row
 past_row = search (heap.crosses, sendable) depth 12
@@ -258,8 +281,22 @@ effort_row = search (heap.crosses, sendable) depth 12
 
 pub engine_sync : (κ : NamedLft) (R : RattleType) → IsSync R → IsSync (Engine.the_row κ R)
 engine_sync κ R r =
-    declared_sync (Engine.the_type κ R)
-    (search (r, sendable) depth 12, (search (heap.sync, sendable) depth 12, (as_row_sync (shr_ref_field κ Library.the_row tt) (shr_sync κ.mir κ.lft Library.the_row library_row), (search sendable depth 12, (as_row_sync (shr_ref_field κ Past.the_row tt) (shr_sync κ.mir κ.lft Past.the_row past_row), (as_row_sync (shr_ref_field κ Effort.the_row tt) (shr_sync κ.mir κ.lft Effort.the_row effort_row), tt))))))
+    declared_sync (Engine.the_type κ R) (
+      search (r, sendable) depth 12,
+      (
+        search (heap.sync, sendable) depth 12,
+        (
+          as_row_sync (shr_ref_field κ Library.the_row tt) (shr_sync κ.mir κ.lft Library.the_row library_row),
+          (
+            search sendable depth 12,
+            (
+              as_row_sync (shr_ref_field κ Past.the_row tt) (shr_sync κ.mir κ.lft Past.the_row past_row),
+              (as_row_sync (shr_ref_field κ Effort.the_row tt) (shr_sync κ.mir κ.lft Effort.the_row effort_row), tt),
+            ),
+          ),
+        ),
+      ),
+    )
 
 wave_board : IsSync (Board.the_row (Arc.the_row Layer.the_row Heap.the_row ghosts))
 wave_board = board.the_sync (Arc.the_row Layer.the_row Heap.the_row ghosts) (heap.Arc-send Layer.the_row layer_row_send layer_row_sync) (heap.Arc-sync Layer.the_row layer_row_send layer_row_sync)

@@ -29,7 +29,8 @@ use Rattle.hp_fire.proofs.Steps.{GroupLoop, grows, runs_answer, goes_unvetoed, g
 
 signal_runs : {library : Library} {now depth : ℕ} {p : Primitive} {tasks : List Task} {v w z : Seeing} {a : Answer} → IsTriggered library now depth p v w tasks → GoesOn v w
     → Runs library (start (level_at library 0 depth).below tasks) w z a → Runs library (signal_in (level_at library now depth) p) v z a
-signal_runs {library} {now} {depth} {p} triggered on r = record { goes_on = GoesOn-then on r.goes_on; faithful = faithful_signal (level_at library now depth) p (grows r.goes_on) triggered.heard r.faithful }
+signal_runs {library} {now} {depth} {p} triggered on r =
+    record { goes_on = GoesOn-then on r.goes_on; faithful = faithful_signal (level_at library now depth) p (grows r.goes_on) triggered.heard r.faithful }
 
 -- ---- what is left of a work is to start tasks
 
@@ -45,7 +46,8 @@ signal_ready lib now depth p v w (Ok tasks) triggered = record { at = triggered.
 signal_ready lib now depth p v w (Err h) none = tt
 
 -- there are tasks
-pub then_starts : (lib : RustLibrary) (depth : ℕ) (work : Work) (before old : Seeing) (result : Result (Vec RustTask) Halt) (tasks : Vec RustTask) → result ≡ Ok tasks → TasksStart lib depth work before old result
+pub then_starts : (lib : RustLibrary) (depth : ℕ) (work : Work) (before old : Seeing) (result : Result (Vec RustTask) Halt) (tasks : Vec RustTask)
+    → result ≡ Ok tasks → TasksStart lib depth work before old result
     → Starts (library lib) (start (below_at lib depth) (map task tasks.items)) work before old
 then_starts lib depth work before old result tasks is given = subst (λ (r : Result (Vec RustTask) Halt). TasksStart lib depth work before old r) is given
 
@@ -97,7 +99,13 @@ pub start_single : {library : Library} {depth : ℕ} {v w : Seeing} {f : FiringA
     → Runs library (start (level_at library 0 depth).below tasks) v w (group_answer (record { firings = f ∷ []; vetoed_by = f.vetoed_by }))
 start_single {library} {depth} {v} {w} {f} tasks t ready is at_once r =
     subst (λ ts. Runs library (start (level_at library 0 depth).below ts) v w (group_answer group)) (sym is)
-    (runs_answer (λ i. record { end = (group_answer group).end; queued = ap (λ ts. ts ++ queued_in group.firings) (sym (none_is_deferred (t ∷ []) now)) i; detached = ap (λ ts. map unreleased ts ++ detached_in group.firings) (sym (none_is_detached (t ∷ []) now)) i; items = items_in group.firings })
+    (runs_answer (λ i. record {
+      end = (group_answer group).end;
+      queued = ap (λ ts. ts ++ queued_in group.firings) (sym (none_is_deferred (t ∷ []) now)) i;
+      detached =
+          ap (λ ts. map unreleased ts ++ detached_in group.firings) (sym (none_is_detached (t ∷ []) now)) i;
+      items = items_in group.firings;
+    })
     (start_runs (t ∷ []) (subst (AreReady library depth) is ready) (λ none. cc)
     (subst (λ ts. RunsGroup library (siblings (fire_task library) true ts) v w group) (sym (all_fire (t ∷ []) now)) (single_group t r))))
   where
@@ -141,7 +149,8 @@ all_at depth (t ∷ ts) at =
     let here : t.depth ≡ depth + 1 = omega (arith, at.0) in
     All-cons (λ (u : RustTask). u.depth ≡ depth + 1) t ts here (all_at depth ts at.1)
 
-pub tasks_at : {l : Library} (depth : ℕ) (tasks now : List RustTask) → AreReady l depth (map task tasks) → map task now ≡ filter (λ (u : Task). is_immediate u.place) (map task tasks) → All (λ (t : RustTask). t.depth ≡ depth + 1) now
+pub tasks_at : {l : Library} (depth : ℕ) (tasks now : List RustTask) → AreReady l depth (map task tasks) → map task now ≡ filter (λ (u : Task). is_immediate u.place) (map task tasks)
+    → All (λ (t : RustTask). t.depth ≡ depth + 1) now
 tasks_at depth tasks now ready is = all_at depth now (subst (AreAt (suc depth)) (sym is) (at_filter (suc depth) (λ (u : Task). is_immediate u.place) (map task tasks) ready.at))
 
 pub none_long : {X : Type 0} (xs : List X) → length xs ≡ 0 → xs ≡ []

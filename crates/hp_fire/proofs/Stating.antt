@@ -47,7 +47,8 @@ pub steps_at : (library : Library) (level : Level) (context : Context) (v w : Se
     → Steps library (run_statement y level context) v w result
 steps_at library level context v w result is p = subst (λ s. Steps library (run_statement s level context) v w result) is p
 
-pub runs_at : {library : Library} (level : Level) (context : Context) {v w : Seeing} {a : Answer} {x y : Statement} → x ≡ y → Runs library (run_statement x level context) v w a → Runs library (run_statement y level context) v w a
+pub runs_at : {library : Library} (level : Level) (context : Context) {v w : Seeing} {a : Answer} {x y : Statement} → x ≡ y → Runs library (run_statement x level context) v w a
+    → Runs library (run_statement y level context) v w a
 runs_at {library} level context {v} {w} {a} is p = subst (λ s. Runs library (run_statement s level context) v w a) is p
 
 -- ---- signals
@@ -88,13 +89,15 @@ signal_makes f library level x o v (Err Memory) is = tt
 
 -- ---- what is found
 
-pub found_steps : {A : Type 0} (library : Library) (of : State → Outcome A) (f : A → Work) (x : A) (v w z : Seeing) (result : Result Course Halt) → Finding library of v w (Ok x) → Steps library (f x) w z result
+pub found_steps : {A : Type 0} (library : Library) (of : State → Outcome A) (f : A → Work) (x : A) (v w z : Seeing) (result : Result Course Halt)
+    → Finding library of v w (Ok x) → Steps library (f x) w z result
     → Steps library (λ S. with_value (of S) f S) v z result
 found_steps library of f x v w z (Ok c) found r = found_value f found r
 found_steps library of f x v w z (Err (ByCause c)) found r = found_value f found r
 found_steps library of f x v w z (Err Memory) found r = tt
 
-pub found_halt : {A X : Type 0} (f : X → A) (next : A → Work) (of : State → Outcome A) (h : Halt) (library : Library) (v w : Seeing) → Looks f library of v w (Err h) → Steps library (λ S. with_value (of S) next S) v w (Err h)
+pub found_halt : {A X : Type 0} (f : X → A) (next : A → Work) (of : State → Outcome A) (h : Halt) (library : Library) (v w : Seeing) → Looks f library of v w (Err h)
+    → Steps library (λ S. with_value (of S) next S) v w (Err h)
 found_halt f next of (ByCause c) library v w found = found_cause next found
 found_halt f next of Memory library v w found = tt
 
@@ -108,12 +111,14 @@ fire_halt lib context now depth n (ByCause c) v w only fires = record {
 }
 fire_halt lib context now depth n Memory v w only fires = tt
 
-starts : (library : Library) (now depth n : ℕ) (s : Status) → (s ≡ absent → ⊥) → (S : State) → start_fired s (level_at library now depth) n S ≡ start (level_at library 0 depth).below (fired_task (level_at library now depth) n ∷ []) S
+starts : (library : Library) (now depth n : ℕ) (s : Status) → (s ≡ absent → ⊥) → (S : State)
+    → start_fired s (level_at library now depth) n S ≡ start (level_at library 0 depth).below (fired_task (level_at library now depth) n ∷ []) S
 starts library now depth n absent there S = absurd (there refl)
 starts library now depth n enabled there S = refl
 starts library now depth n disabled there S = refl
 
-pub fire_runs : {library : Library} (context : Context) {now depth n : ℕ} {v w z : Seeing} {t : Task} {a : Answer} → OnlyReads v w → IsFired library now depth n w t → Runs library (start (level_at library 0 depth).below (t ∷ [])) w z a
+pub fire_runs : {library : Library} (context : Context) {now depth n : ℕ} {v w z : Seeing} {t : Task} {a : Answer} → OnlyReads v w → IsFired library now depth n w t
+    → Runs library (start (level_at library 0 depth).below (t ∷ [])) w z a
     → Runs library (run_statement (fire n) (level_at library now depth) context) v z a
 fire_runs {library} context {now} {depth} {n} {v} {w} {z} {t} {a} only fired r =
     let fires : Runs library (start_fired fired.status (level_at library now depth) n) w z a =

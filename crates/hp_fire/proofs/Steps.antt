@@ -14,7 +14,8 @@ use Rattle.hp_model.specs.Cells.{Changes}
 use Rattle.hp_model.specs.Soundness.{Answer, FiringAnswer}
 use Rattle.hp_model.specs.Answers.{FaithfulWork, FaithfulFiring, SiblingsAnswer, ended, tells, followed, is_done, kept, closing, closing_action}
 use Rattle.hp_model.specs.Operations.{operation_items}
-use Rattle.hp_model.proofs.Faithful.{Grows, finds_more, faithful_ends, faithful_as, faithful_value, faithful_cause, Completes, each_more, each_halt, each_end, faithful_sub_done, faithful_sub_veto, faithful_sub_abort}
+use Rattle.hp_model.proofs.Faithful.{Grows, finds_more, faithful_ends, faithful_as, faithful_value, faithful_cause, Completes, each_more, each_halt, each_end, faithful_sub_done}
+use Rattle.hp_model.proofs.Faithful.{faithful_sub_veto, faithful_sub_abort}
 use Rattle.hp_model.proofs.FaithfulFirings.{faithful_action, goes_on, GroupCompletes, group_more, group_end, group_vetoed}
 use Rattle.hp_rule.specs.declared.stmt.Stmt.{Stmt}
 use Rattle.hp_rule.specs.Mapped.{statement, body_in}
@@ -90,7 +91,8 @@ module _ {A : Type 0} (library : Library) (work : A → Work) (whole : Work) whe
     completes = each_more library work whole _ is_end (grows r.goes_on) l.completes r.faithful;
   }
 
-  pub loop_halt : {x : A} {xs : List A} {v w z : Seeing} {so_far got : Answer} → is_done got.end ≡ false → Loop (x ∷ xs) v w so_far → Runs library (work x) w z got → Runs library whole v z (followed so_far got)
+  pub loop_halt : {x : A} {xs : List A} {v w z : Seeing} {so_far got : Answer} → is_done got.end ≡ false → Loop (x ∷ xs) v w so_far → Runs library (work x) w z got
+      → Runs library whole v z (followed so_far got)
   loop_halt halts l r = record {
     goes_on = GoesOn-then l.goes_on r.goes_on;
     faithful = each_halt library work whole _ halts (grows r.goes_on) l.completes r.faithful;
@@ -138,7 +140,8 @@ closes_back {first} {now} {new} {e} n halts is on goes goes_on = record {
 }
 
 -- an action has ended
-pub closes_action : {library : Library} (what : Node) (level : Level) (t : Task) (found : Findings) {v w z : Seeing} {a : Answer} → Runs library (action_course level t found) v w a → Closes v w z a.end
+pub closes_action : {library : Library} (what : Node) (level : Level) (t : Task) (found : Findings) {v w z : Seeing} {a : Answer} → Runs library (action_course level t found) v w a
+    → Closes v w z a.end
     → RunsFiring library (run_action what level t found) v z (closing_action what (rule_at level.library t.rule).closed t.rule a)
 closes_action {library} what level t found {v} {w} {z} {a} r closes =
     let answer = closing_action what (rule_at level.library t.rule).closed t.rule a in
@@ -150,7 +153,8 @@ closes_action {library} what level t found {v} {w} {z} {a} r closes =
     }
 
 -- the body of a statement `sub` has ended
-sub_at : {library : Library} (f otherwise : Work) {v w z : Seeing} {e : End} {b : Answer} → Closes v w z e → FaithfulWork library (λ S. sub_in f otherwise S) w.reads (written v) (kept e (written v) (written w)) b
+sub_at : {library : Library} (f otherwise : Work) {v w z : Seeing} {e : End} {b : Answer} → Closes v w z e
+    → FaithfulWork library (λ S. sub_in f otherwise S) w.reads (written v) (kept e (written v) (written w)) b
     → FaithfulWork library (λ S. sub_in f otherwise S) z.reads (written v) (written z) b
 sub_at {library} f otherwise {v} {w} {z} {e} {b} closes p =
     subst (λ rs. FaithfulWork library (λ S. sub_in f otherwise S) rs (written v) (written z) b) (sym closes.reads)
@@ -160,17 +164,21 @@ sub_done : {library : Library} {f : Work} {v w z : Seeing} {a : Answer} → a.en
 sub_done {library} {f} {v} {w} {z} {a} is r closes = record {
   goes_on = closes.goes_on;
   over = λ otherwise. sub_at f otherwise closes
-      (subst (λ e. FaithfulWork library (λ S. sub_in f otherwise S) w.reads (written v) (kept e (written v) (written w)) (closing sub_node a done)) (sym is) (faithful_sub_done f otherwise is r.faithful));
+      (subst (λ e. FaithfulWork library (λ S. sub_in f otherwise S) w.reads (written v) (kept e (written v) (written w)) (closing sub_node a done))
+      (sym is) (faithful_sub_done f otherwise is r.faithful));
 }
 
-sub_veto : {library : Library} {f : Work} {v w z : Seeing} {a : Answer} (n : Veto) → a.end ≡ veto_by n → Runs library f v w a → Closes v w z a.end → SubOver library f v z (closing sub_node a (veto_by n))
+sub_veto : {library : Library} {f : Work} {v w z : Seeing} {a : Answer} (n : Veto) → a.end ≡ veto_by n → Runs library f v w a → Closes v w z a.end
+    → SubOver library f v z (closing sub_node a (veto_by n))
 sub_veto {library} {f} {v} {w} {z} {a} n is r closes = record {
   goes_on = closes.goes_on;
   over = λ otherwise. sub_at f otherwise closes
-      (subst (λ e. FaithfulWork library (λ S. sub_in f otherwise S) w.reads (written v) (kept e (written v) (written w)) (closing sub_node a (veto_by n))) (sym is) (faithful_sub_veto f otherwise n is r.faithful));
+      (subst (λ e. FaithfulWork library (λ S. sub_in f otherwise S) w.reads (written v) (kept e (written v) (written w)) (closing sub_node a (veto_by n)))
+      (sym is) (faithful_sub_veto f otherwise n is r.faithful));
 }
 
-sub_abort : {library : Library} {f : Work} {v w z : Seeing} {a : Answer} (x : Cause) → a.end ≡ abort_by x → Runs library f v w a → Closes v w z a.end → SubAborted library f v z (closing sub_node a done)
+sub_abort : {library : Library} {f : Work} {v w z : Seeing} {a : Answer} (x : Cause) → a.end ≡ abort_by x → Runs library f v w a → Closes v w z a.end
+    → SubAborted library f v z (closing sub_node a done)
 sub_abort {library} {f} {v} {w} {z} {a} x is r closes = record {
   goes_on = closes.goes_on;
   then_other = λ otherwise {more} {after} {b} more_reads p.
@@ -180,7 +188,8 @@ sub_abort {library} {f} {v} {w} {z} {a} x is r closes = record {
 }
 
 -- the body has ended so, and the answer of the statement so far is this
-pub sub_closes : {library : Library} {f : Work} {v w z : Seeing} {a b : Answer} (after : End) (aborted : Bool) → SubEnds a.end after aborted → b ≡ closing sub_node a after → Runs library f v w a → Closes v w z a.end
+pub sub_closes : {library : Library} {f : Work} {v w z : Seeing} {a b : Answer} (after : End) (aborted : Bool) → SubEnds a.end after aborted
+    → b ≡ closing sub_node a after → Runs library f v w a → Closes v w z a.end
     → SubRuns library f v z b aborted
 sub_closes {library} {f} {v} {w} {z} {a} {b} after aborted ends is r closes = by a.end refl ends
   where
@@ -195,7 +204,8 @@ sub_closes {library} {f} {v} {w} {z} {a} {b} after aborted ends is r closes = by
     by (veto_by n) e h = at (veto_by n) false h.0 h.1 (sub_veto n e r closes)
 
 -- the other body follows
-pub sub_then : {library : Library} {f otherwise : Work} {v w z : Seeing} {a b : Answer} → SubAborted library f v w a → Runs library otherwise w z b → Runs library (λ S. sub_in f otherwise S) v z (followed a b)
+pub sub_then : {library : Library} {f otherwise : Work} {v w z : Seeing} {a b : Answer} → SubAborted library f v w a → Runs library otherwise w z b
+    → Runs library (λ S. sub_in f otherwise S) v z (followed a b)
 sub_then {otherwise = otherwise} s r = record { goes_on = GoesOn-then s.goes_on r.goes_on; faithful = s.then_other otherwise (grows r.goes_on) r.faithful }
 
 pub sub_over : {library : Library} {f : Work} (otherwise : Work) {v w : Seeing} {a : Answer} → SubOver library f v w a → Runs library (λ S. sub_in f otherwise S) v w a
@@ -222,13 +232,18 @@ module _ (library : Library) (stops : Bool) (whole : List Task) where
       → RunsFiring library (λ S. fire_task library S t) w z f → GroupLoop ts v z (so_far ++ f ∷ [])
   group_next on l r = record { goes_on = GoesOn-then l.goes_on r.goes_on; completes = group_more library (fire_task library) stops whole _ on (grows r.goes_on) l.completes r.faithful }
 
-  pub group_over : {v w : Seeing} {so_far : List FiringAnswer} → GroupLoop [] v w so_far → RunsGroup library (siblings (fire_task library) stops whole) v w (record { firings = so_far; vetoed_by = None })
+  pub group_over : {v w : Seeing} {so_far : List FiringAnswer} → GroupLoop [] v w so_far
+      → RunsGroup library (siblings (fire_task library) stops whole) v w (record { firings = so_far; vetoed_by = None })
   group_over l = record { goes_on = l.goes_on; faithful = group_end library (fire_task library) stops whole _ l.completes }
 
 pub group_stop : (library : Library) (whole : List Task) {t : Task} {ts : List Task} {v w z : Seeing} {so_far : List FiringAnswer} {f : FiringAnswer} (r : Veto) → f.vetoed_by ≡ Some r
     → GroupLoop library true whole (t ∷ ts) v w so_far → RunsFiring library (λ S. fire_task library S t) w z f
     → RunsGroup library (siblings (fire_task library) true whole) v z (record { firings = so_far ++ f ∷ []; vetoed_by = Some r })
-group_stop library whole r vetoes l p = record { goes_on = GoesOn-then l.goes_on p.goes_on; faithful = group_vetoed library (fire_task library) whole _ r vetoes (grows p.goes_on) l.completes p.faithful }
+group_stop library whole r vetoes l p = record {
+  goes_on = GoesOn-then l.goes_on p.goes_on;
+  faithful =
+      group_vetoed library (fire_task library) whole _ r vetoes (grows p.goes_on) l.completes p.faithful;
+}
 
 -- ---- the same at an index of a list
 
@@ -252,7 +267,8 @@ module _ {A : Type 0} {library : Library} {work : A → Work} {whole : Work} whe
   loop_ends {left} {v} {w} {so_far} none l = loop_end library work whole (subst (λ xs. Loop library work whole xs v w so_far) none l)
 
 -- a list of one
-pub only_runs : {A : Type 0} {library : Library} (work : A → Work) (whole : Work) (x : A) {v w : Seeing} {a : Answer} → ((S : State) → whole S ≡ for_each (x ∷ []) work S) → Runs library (work x) v w a → Runs library whole v w a
+pub only_runs : {A : Type 0} {library : Library} (work : A → Work) (whole : Work) (x : A) {v w : Seeing} {a : Answer} → ((S : State) → whole S ≡ for_each (x ∷ []) work S)
+    → Runs library (work x) v w a → Runs library whole v w a
 only_runs {library = library} work whole x {v} {w} {a} same r = by (is_done a.end) refl
   where
     by : (b : Bool) → is_done a.end ≡ b → Runs library whole v w a
@@ -260,7 +276,8 @@ only_runs {library = library} work whole x {v} {w} {a} same r = by (is_done a.en
     by false e = loop_halt library work whole e (loop_begin library work whole (x ∷ []) v same) r
 
 -- a body of one statement
-pub lone_runs : {library : Library} (level : Level) (context : Context) (ss : List Stmt) (s : Stmt) {v w : Seeing} {a : Answer} → ss ≡ s ∷ [] → Runs library (run_statement (statement s) level context) v w a → Runs library (run_body (body_in ss) level context) v w a
+pub lone_runs : {library : Library} (level : Level) (context : Context) (ss : List Stmt) (s : Stmt) {v w : Seeing} {a : Answer} → ss ≡ s ∷ []
+    → Runs library (run_statement (statement s) level context) v w a → Runs library (run_body (body_in ss) level context) v w a
 lone_runs level context ss s is r =
     only_runs (λ x. run_statement (statement x) level context) (run_body (body_in ss) level context) s
     (λ S. body_each level context ss S ∙ ap (λ xs. for_each xs (λ x. run_statement (statement x) level context) S) is) r
@@ -278,12 +295,14 @@ module _ {library : Library} {stops : Bool} {whole : List Task} where
   pub group_starts : (v : Seeing) (so_far : List FiringAnswer) → so_far ≡ [] → GroupLoop library stops whole whole v v so_far
   group_starts v so_far is = subst (GroupLoop library stops whole whole v v) (sym is) (group_begin library stops whole v)
 
-  pub group_goes : {left ts : List Task} {v w z : Seeing} {so_far : List FiringAnswer} {f : FiringAnswer} (t : Task) (after : List FiringAnswer) → left ≡ t ∷ ts → after ≡ so_far ++ f ∷ [] → goes_on stops f.vetoed_by ≡ true
+  pub group_goes : {left ts : List Task} {v w z : Seeing} {so_far : List FiringAnswer} {f : FiringAnswer} (t : Task) (after : List FiringAnswer) → left ≡ t ∷ ts
+      → after ≡ so_far ++ f ∷ [] → goes_on stops f.vetoed_by ≡ true
       → GroupLoop library stops whole left v w so_far → RunsFiring library (λ S. fire_task library S t) w z f → GroupLoop library stops whole ts v z after
   group_goes {left} {ts} {v} {w} {z} {so_far} {f} t after here is goes l r =
       subst (GroupLoop library stops whole ts v z) (sym is) (group_next library stops whole goes (subst (λ xs. GroupLoop library stops whole xs v w so_far) here l) r)
 
-  pub group_stops : {left ts : List Task} {v w z : Seeing} {so_far : List FiringAnswer} {f : FiringAnswer} (t : Task) (after : List FiringAnswer) → left ≡ t ∷ ts → after ≡ so_far ++ f ∷ [] → stops ≡ true → is_some f.vetoed_by ≡ true
+  pub group_stops : {left ts : List Task} {v w z : Seeing} {so_far : List FiringAnswer} {f : FiringAnswer} (t : Task) (after : List FiringAnswer)
+      → left ≡ t ∷ ts → after ≡ so_far ++ f ∷ [] → stops ≡ true → is_some f.vetoed_by ≡ true
       → GroupLoop library stops whole left v w so_far → RunsFiring library (λ S. fire_task library S t) w z f
       → RunsGroup library (siblings (fire_task library) stops whole) v z (record { firings = after; vetoed_by = f.vetoed_by })
   group_stops {left} {ts} {v} {w} {z} {so_far} {f} t after here is at veto l r =

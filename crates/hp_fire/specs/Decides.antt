@@ -24,7 +24,8 @@ use Rattle.hp_fire.specs.Runs.{RunsFiring}
 -- the firing is the action's result, once that has run
 pub record ThenActs (library : Library) (fire : State → Firing) (t : Task) (old new : Seeing) (node : Node) (found : Findings) : Type 0 where
   pub goes_on : GoesOn old new
-  pub then_action : {more : List Read} {after : Changes} {f : FiringAnswer} → Grows new.reads more → FaithfulFiring library (run_action node (level_at library t.now t.depth) t found) more (written new) after f
+  pub then_action : {more : List Read} {after : Changes} {f : FiringAnswer} → Grows new.reads more
+      → FaithfulFiring library (run_action node (level_at library t.now t.depth) t found) more (written new) after f
       → FaithfulFiring library fire more (written old) after f
 
 -- what the condition found

@@ -20,5 +20,6 @@ module _ {F : Type 0} (g : Shared F (MutBor Seeing × (Bor Task × (Bor Effort �
 
   -- what f does with a task is the task's firing
   abbrev pub Fires : Library → Type 0
-  Fires library = (v : MutBor Seeing) (p : Bor Task) (e : Bor Effort) (width : ℕ) (r : Result Outcome AllocError) (v' : MutBor Seeing) → width < 2 ^ 64 → g.post f (v, (p, (e, (width, tt)))) (r, (v', tt))
+  Fires library = (v : MutBor Seeing) (p : Bor Task) (e : Bor Effort) (width : ℕ) (r : Result Outcome AllocError) (v' : MutBor Seeing) → width < 2 ^ 64
+      → g.post f (v, (p, (e, (width, tt)))) (r, (v', tt))
       → IfOk r (λ o. RunsFiring library (λ S. fire_task library S (task p.now)) v.now v'.now (firing o))

@@ -41,7 +41,8 @@ pub record IsSoFar (library : Library) (stops : Bool) (tasks : List Task) (first
 
 -- the group and its view have come further, from whatever view the group began at
 abbrev pub ComesFurther : Library → (stops : Bool) → List Task → Seeing → Settled → Seeing → Settled → Type 0
-ComesFurther library stops tasks view s view' s' = (first : Seeing) → IsSoFar library stops tasks first view s.outcomes.items (option_map veto s.end) → IsSoFar library stops tasks first view' s'.outcomes.items (option_map veto s'.end)
+ComesFurther library stops tasks view s view' s' = (first : Seeing) → IsSoFar library stops tasks first view s.outcomes.items (option_map veto s.end)
+    → IsSoFar library stops tasks first view' s'.outcomes.items (option_map veto s'.end)
 
 -- no veto has stopped the group, and of this number of tasks one is left
 abbrev pub GoesOnBelow : Settled → ℕ → Type 0
@@ -82,7 +83,8 @@ pub record IsAhead (old new : Progress) : Type 0 where
   pub waves : new.counts.waves ≡ old.counts.waves
   pub retried : new.counts.retried ≡ old.counts.retried
   pub accepted : new.counts.accepted + length old.settled.outcomes.items ≤ old.counts.accepted + length new.settled.outcomes.items
-  pub reran : length old.settled.outcomes.items < length new.settled.outcomes.items → IsRetried old.counts (length old.settled.outcomes.items) → new.counts.accepted + length old.settled.outcomes.items < old.counts.accepted + length new.settled.outcomes.items
+  pub reran : length old.settled.outcomes.items < length new.settled.outcomes.items → IsRetried old.counts (length old.settled.outcomes.items)
+      → new.counts.accepted + length old.settled.outcomes.items < old.counts.accepted + length new.settled.outcomes.items
   pub none : length new.settled.outcomes.items ≡ length old.settled.outcomes.items → old.settled.end ≡ None → new.settled.end ≡ None
 
 -- the group and its view have come further, and the attempts are sound

@@ -23,16 +23,19 @@ asked_of is_text kept base line r stands read =
     ∙ ap (λ t. request_in is_text (version_view kept.version) (library kept.library.value) t line) (sym stands.clock_is) ∙ read
 
 -- by the kind of request
-answers_by : (text : String Global) (kept : RuleBase) (manner : L.Manner) (base : L.RuleBase) (line : List ℕ) (r : Result Request Bytes) → request_in manner.is_text base.version base.library base.clock line ≡ r
+answers_by : (text : String Global) (kept : RuleBase) (manner : L.Manner) (base : L.RuleBase) (line : List ℕ) (r : Result Request Bytes)
+    → request_in manner.is_text base.version base.library base.clock line ≡ r
     → Answers text (Up kept) (L.later_answer manner.with_tree base r) → Answers text (Up kept) (L.answer manner (L.up base) line)
 answers_by text kept manner base line r read answers = subst (λ q. Answers text (Up kept) (L.later_answer manner.with_tree base q)) (sym read) answers
 
-pub answers_item : (text : String Global) (old new : RuleBase) (manner : L.Manner) (base : L.RuleBase) (line : List ℕ) (s : Schedule) → StandsFor old base → request_in manner.is_text (version_view old.version) (library old.library.value) old.clock line ≡ Ok (R.item s)
+pub answers_item : (text : String Global) (old new : RuleBase) (manner : L.Manner) (base : L.RuleBase) (line : List ℕ) (s : Schedule) → StandsFor old base
+    → request_in manner.is_text (version_view old.version) (library old.library.value) old.clock line ≡ Ok (R.item s)
     → string_bytes text ≡ (L.ran manner.with_tree base s).body ++ (L.ran manner.with_tree base s).last → StandsFor new (ran_base base s) → Answers text (Up new) (L.answer manner (L.up base) line)
 answers_item text old new manner base line s stands read is later =
     answers_by text new manner base line (Ok (R.item s)) (asked_of manner.is_text old base line (Ok (R.item s)) stands read) (record { text_is = is; stage_is = later })
 
-pub answers_show : (text : String Global) (kept : RuleBase) (manner : L.Manner) (base : L.RuleBase) (line : List ℕ) (e : R.Excerpt) → StandsFor kept base → request_in manner.is_text (version_view kept.version) (library kept.library.value) kept.clock line ≡ Ok (R.show e)
+pub answers_show : (text : String Global) (kept : RuleBase) (manner : L.Manner) (base : L.RuleBase) (line : List ℕ) (e : R.Excerpt) → StandsFor kept base
+    → request_in manner.is_text (version_view kept.version) (library kept.library.value) kept.clock line ≡ Ok (R.show e)
     → string_bytes text ≡ L.excerpt_text base.library base.state e ++ L.ok_line base.units → Answers text (Up kept) (L.answer manner (L.up base) line)
 answers_show text kept manner base line e stands read is =
     answers_by text kept manner base line (Ok (R.show e)) (asked_of manner.is_text kept base line (Ok (R.show e)) stands read) (record { text_is = is; stage_is = stands })
@@ -55,7 +58,8 @@ stands_up kept L.closed A is f = absurd is
 
 -- the answer to the script
 pub answers_script : (text : String Global) (new : RuleBase) (manner : L.Manner) (line : List ℕ) (t : TimedScript) → timed_script_in manner.is_text line ≡ Ok t
-    → string_bytes text ≡ (L.ran manner.with_tree (L.new_base t.version t.script.library) (record { units = t.script.units; clock = t.clock })).body ++ (L.ran manner.with_tree (L.new_base t.version t.script.library) (record { units = t.script.units; clock = t.clock })).last
+    → string_bytes text ≡ (L.ran manner.with_tree (L.new_base t.version t.script.library) (record { units = t.script.units; clock = t.clock })).body
+    ++ (L.ran manner.with_tree (L.new_base t.version t.script.library) (record { units = t.script.units; clock = t.clock })).last
     → StandsFor new (ran_base (L.new_base t.version t.script.library) (record { units = t.script.units; clock = t.clock })) → Answers text (Up new) (L.answer manner L.unopened line)
 answers_script text new manner line t read is later =
     subst (λ q. Answers text (Up new) (L.opening_answer manner.with_tree q)) (sym read) (record { text_is = is; stage_is = later })

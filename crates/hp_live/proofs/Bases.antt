@@ -50,7 +50,8 @@ shown [] = refl
 shown (s ∷ ss) = ap (λ (l : List S.Status). status s ∷ l) (shown ss)
 
 -- the text of a state with these cells and objects
-pub state_shown : (library : Library) (base : Cells) (objects : Objects) (ss : List RuleStatus) (S : State) → AreStatuses library base (map status ss) → IsOrdered library S → cells library S ≡ base → objects ≡ S.objects
+pub state_shown : (library : Library) (base : Cells) (objects : Objects) (ss : List RuleStatus) (S : State) → AreStatuses library base (map status ss)
+    → IsOrdered library S → cells library S ≡ base → objects ≡ S.objects
     → state_text library objects (map rule_state ss) ≡ state_text library S.objects S.rules
 state_shown library base objects ss S are ordered same objects_are =
     ap (λ (os : Objects). state_text library os (map rule_state ss)) objects_are

@@ -1,5 +1,6 @@
 -- The answers to bytes that arrive in pieces.
-use Rattle.std.proofs.Common.{◌≡◌, ◌≢◌, ◌≤◌, ℕ, suc, drop-cons, ◌+◌, ◌<◌, List, [], ◌∷◌, ◌++◌, length, take, drop, length-take-le, slice_index_or, Option, Some, None, IfSome, Bool, true, false, cond, ◌==◌, refl, sym, ap, subst, ◌∙◌, append-nil, arith}
+use Rattle.std.proofs.Common.{◌≡◌, ◌≢◌, ◌≤◌, ℕ, suc, drop-cons, ◌+◌, ◌<◌, List, [], ◌∷◌, ◌++◌, length, take, drop, length-take-le, slice_index_or, Option, Some, None, IfSome, Bool}
+use Rattle.std.proofs.Common.{true, false, cond, ◌==◌, refl, sym, ap, subst, ◌∙◌, append-nil, arith}
 use Rattle.std.specs.Io.KnownBytes.{Appends, Consumes, Keeps, IsAtEnd}
 use Rattle.std.proofs.Math.Seq.{take-suc}
 use Rattle.std.proofs.lemmas.List.{take-append-drop}
@@ -31,7 +32,8 @@ one_more xs i low =
 
 -- the same with one more byte
 pub fed_byte : (old mid new : Option (List ℕ)) (was is : Bool) (before now then : Server) (xs : List ℕ) (i : ℕ) → Fed old mid was before now (take i xs)
-    → ((d : L.Server) → IsServer now d → Appends mid new (byte_output d (slice_index_or xs i 0))) → ((d : L.Server) → IsServer now d → IsServer then (next d (slice_index_or xs i 0))) → is ≡ false → i < length xs
+    → ((d : L.Server) → IsServer now d → Appends mid new (byte_output d (slice_index_or xs i 0))) → ((d : L.Server) → IsServer now d → IsServer then (next d (slice_index_or xs i 0)))
+    → is ≡ false → i < length xs
     → Fed old new is before then (take (i + 1) xs)
 fed_byte old mid new was is before now then xs i fed out at whole low =
     let x = slice_index_or xs i 0 in
@@ -192,7 +194,8 @@ pub served_on : (left rest more : Option (List ℕ)) (old mid new : Option (List
 served_on left rest more old mid new first now then piece s taken out at stops = record {
   bytes = s.bytes ++ piece;
   taken = Consumes-trans left rest more s.bytes piece s.taken taken;
-  out = subst (Appends old new) (sym (output-append first s.bytes piece)) (Appends-trans old mid new (piece_output first s.bytes) (piece_output (after first s.bytes) piece) s.out (out (after first s.bytes) s.at));
+  out = subst (Appends old new) (sym (output-append first s.bytes piece)) (Appends-trans old mid new (piece_output first s.bytes) (piece_output (after first s.bytes) piece)
+      s.out (out (after first s.bytes) s.at));
   at = subst (IsServer then) (sym (after-append first s.bytes piece)) (at (after first s.bytes) s.at);
   stops = λ unshut. stops;
 }
@@ -230,7 +233,8 @@ output_closed None rest old new d bytes taken out shut = tt
 output_closed (Some input) None old new d bytes taken out shut = absurd taken
 output_closed (Some input) (Some r) old new d bytes taken out shut =
     let all : piece_output d bytes ≡ input_output d input =
-    sym (append-nil (piece_output d bytes)) ∙ ap (λ (l : List ℕ). piece_output d bytes ++ l) (sym (closed_writes (after d bytes) r shut)) ∙ sym (input-append d bytes r) ∙ ap (input_output d) (sym taken) in
+    sym (append-nil (piece_output d bytes)) ∙ ap (λ (l : List ℕ). piece_output d bytes ++ l) (sym (closed_writes (after d bytes) r shut)) ∙ sym (input-append d bytes r)
+    ∙ ap (input_output d) (sym taken) in
     subst (Appends old new) all out
 
 closed_of : (s : L.Stage) → status_at s ≡ Refused → s ≡ closed

@@ -45,10 +45,24 @@ use Rattle.hp_sessions.specs.contracts.receipt.Receipt as Receipt
 
 -- ---- libraries and bodies
 
-ruleset expression_parts = (value.the_send, asked.the_send, arithmetic.the_send, comparison.the_send, pattern.the_send, class.the_send, rule_lists.the_send, coupling.the_send, operation_word.the_send, heap.crosses, maps.crosses, sendable)
+ruleset expression_parts = (
+  value.the_send,
+  asked.the_send,
+  arithmetic.the_send,
+  comparison.the_send,
+  pattern.the_send,
+  class.the_send,
+  rule_lists.the_send,
+  coupling.the_send,
+  operation_word.the_send,
+  heap.crosses,
+  maps.crosses,
+  sendable,
+)
 
 expr_send : IsSend Expr.the_field.row
-expr_send = expr.send-Expr (search expression_parts depth 12) (search expression_parts depth 12) heap.Box-send (search expression_parts depth 12) (search expression_parts depth 12) (search expression_parts depth 12)
+expr_send = expr.send-Expr (search expression_parts depth 12) (search expression_parts depth 12) heap.Box-send (search expression_parts depth 12)
+    (search expression_parts depth 12) (search expression_parts depth 12)
 
 event_send : IsSend EventExpr.the_field.row
 event_send = event.send-EventExpr (search expression_parts depth 12) heap.Box-send

@@ -40,7 +40,8 @@ unit_runs u {library} {first} {second} {third} t tasks later tops m p are q all 
     (record { goes_on = GoesOn-then p.goes_on q.goes_on; faithful = faithful_unit u (grows q.goes_on) p.faithful q'.faithful })
 
 -- the same for a view of a snapshot without writes
-pub sound_unit : {library : Library} {u : model.Unit} {first new : Seeing} {report : model.UnitReport} (reads : List Read) (layer : Entries) → first.writes ≡ [] → reads ≡ new.reads → layer ≡ new.writes
+pub sound_unit : {library : Library} {u : model.Unit} {first new : Seeing} {report : model.UnitReport} (reads : List Read) (layer : Entries) → first.writes ≡ []
+    → reads ≡ new.reads → layer ≡ new.writes
     → RunsUnit library u first new report → IsSoundUnit library u reads (changes layer) report
 sound_unit {library} {u} {first} {new} {report} reads layer none reads_are layer_is p =
     subst (λ (x : List Read × Entries). IsSoundUnit library u x.0 (changes x.1) report) (λ i. (sym reads_are i, sym layer_is i))
@@ -51,7 +52,8 @@ snapshot_held reads was same held = subst (λ s. Holds (cells_in s) reads) (same
 
 -- ---- on the committed store
 
-pub ran_unit : {library : Library} {u : model.Unit} {reads : List Read} {layer : Changes} {report : model.UnitReport} {base old : Stack} {after : Cells} → IsSoundUnit library u reads layer report → base ≡ old
+pub ran_unit : {library : Library} {u : model.Unit} {reads : List Read} {layer : Changes} {report : model.UnitReport} {base old : Stack} {after : Cells}
+    → IsSoundUnit library u reads layer report → base ≡ old
     → Holds (cells_in base) reads → after ≡ over (cells_in old) layer → RanUnit library u (cells_in old) after report
 ran_unit {library} {u} {reads} {layer} {report} {base} {old} {after} sound same held applied = record {
   from = λ S ordered is.
@@ -114,7 +116,8 @@ pub stopped_after : {library : Library} {us : List model.Unit} {before : Cells} 
     → RanUnits library us before (cells_in old) (map unit_report_of former) → RanUnits library us before (cells_in new) (map unit_report_of reports)
 stopped_after {library} {us} {before} same none p = subst (λ (x : Stack × List UnitReport). RanUnits library us before (cells_in x.0) (map unit_report_of x.1)) (λ i. (sym same i, sym none i)) p
 
-pub units_are_replayed : {library : Library} {us : List model.Unit} {before now : Cells} {reports : List model.UnitReport} → RanUnits library us before now reports → AreReplayed library us before reports
+pub units_are_replayed : {library : Library} {us : List model.Unit} {before now : Cells} {reports : List model.UnitReport} → RanUnits library us before now reports
+    → AreReplayed library us before reports
 units_are_replayed {library} {us} {before} {now} {reports} ran = record {
   from = λ S ordered is. units_replayed library (take (length reports) us) S ∙ ap (replay_units S.objects) (ran.from S ordered is).answers;
 }

@@ -47,7 +47,8 @@ generation_ran {library} {all} {first} {now} {new} t left rest tops tops' ds ds'
     (λ i. ((sym (map-append top_report tops (report ∷ [])) ∙ ap (map top_report) (sym pushed)) i, (sym (map-append detached ds one.detached.items) ∙ ap (map detached) (sym joined)) i))
     (generation_next (subst (λ ts. GenerationLeft library all (map task ts) first now (record { transactions = map top_report tops; detached = map detached ds })) are p) q)
 
-pub generation_all : {library : Library} {all : List Task} {first now : Seeing} {so_far : GenerationAnswer} → GenerationLeft library all [] first now so_far → RunsGeneration library all first now so_far
+pub generation_all : {library : Library} {all : List Task} {first now : Seeing} {so_far : GenerationAnswer} → GenerationLeft library all [] first now so_far
+    → RunsGeneration library all first now so_far
 generation_all {library} {all} {first = first} p = record { goes_on = p.goes_on; faithful = generation_end library all (written first) p.completes }
 
 -- ---- a cascade
@@ -63,13 +64,15 @@ cascade_none library all left v whole = record {
   completes = subst (λ n. CascadeCompletes library (cascade (most_rounds library) library all) (written v) n all v.reads (written v) []) whole (record { by = λ more after rest on p. p });
 }
 
-pub cascade_next : (t : Task) (ts : List Task) {library : Library} {all tasks : List Task} {most i : ℕ} {first now new : Seeing} {so_far : List TransactionReport} {g : GenerationAnswer} → tasks ≡ t ∷ ts → i < most
+pub cascade_next : (t : Task) (ts : List Task) {library : Library} {all tasks : List Task} {most i : ℕ} {first now new : Seeing} {so_far : List TransactionReport} {g : GenerationAnswer}
+    → tasks ≡ t ∷ ts → i < most
     → CascadeLeft library all (most - i) tasks first now so_far → RunsGeneration library tasks now new g
     → CascadeLeft library all (most - (i + 1)) (due g.detached) first new (so_far ++ g.transactions)
 cascade_next t ts {library} {all} {tasks} {most} {i} {first} {now} {new} {so_far} {g} are low p q =
     let left : most - i ≡ suc (most - (i + 1)) = omega arith in
     let q' : RunsGeneration library (t ∷ ts) now new g = subst (λ us. RunsGeneration library us now new g) are q in
-    let p' : CascadeLeft library all (suc (most - (i + 1))) (t ∷ ts) first now so_far = subst (λ us. CascadeLeft library all (suc (most - (i + 1))) us first now so_far) are (subst (λ n. CascadeLeft library all n tasks first now so_far) left p) in
+    let p' : CascadeLeft library all (suc (most - (i + 1))) (t ∷ ts) first now so_far =
+    subst (λ us. CascadeLeft library all (suc (most - (i + 1))) us first now so_far) are (subst (λ n. CascadeLeft library all n tasks first now so_far) left p) in
     record {
       goes_on = GoesOn-then p.goes_on q.goes_on;
       completes = cascade_more library (cascade (most_rounds library) library all) (written first) (grows q.goes_on) p'.completes q'.faithful;
@@ -87,7 +90,8 @@ cascade_all {library} {all} {tasks} {left} {first} {now} {so_far} none p =
     let p' : CascadeLeft library all 0 tasks first now so_far = subst (λ n. CascadeLeft library all n tasks first now so_far) none p in
     record { goes_on = p.goes_on; faithful = cascade_over library (cascade (most_rounds library) library all) (written first) p'.completes }
 
-pub cascade_started : (library : Library) (all : List Task) (left : ℕ) (v : Seeing) (reports : List TopReport) → most_rounds library ≡ left → reports ≡ [] → CascadeLeft library all left all v v (map top_report reports)
+pub cascade_started : (library : Library) (all : List Task) (left : ℕ) (v : Seeing) (reports : List TopReport) → most_rounds library ≡ left → reports ≡ []
+    → CascadeLeft library all left all v v (map top_report reports)
 cascade_started library all left v reports whole none =
     subst (λ (rs : List TopReport). CascadeLeft library all left all v v (map top_report rs)) (sym none) (cascade_none library all left v whole)
 

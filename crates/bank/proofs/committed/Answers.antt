@@ -7,5 +7,6 @@ use Rattle.bank.proofs.committed.Goals as goal
 
 pub returns : goal.returns
 returns c =
-    let counted = count_from_yields_List c.filter.result _ c.count.ensures.ran (YieldsList-from_filter _ is_committed (YieldsList-from_slice c.args.entries.now (cc)) c.filter.ensures.closure (λ x b q k. search (rules, tests))) in
+    let counted = count_from_yields_List c.filter.result _ c.count.ensures.ran (YieldsList-from_filter _ is_committed (YieldsList-from_slice c.args.entries.now (cc))
+    c.filter.ensures.closure (λ x b q k. search (rules, tests))) in
     counted ∙ length-filter is_committed c.args.entries.now

@@ -4,7 +4,8 @@ use Rattle.hipac.proofs.program.program.Goals as goal
 
 pub returns-in-Ok-clause-code : goal.returns-in-Ok-clause-code
 returns-in-Ok-clause-code g c =
-    if_asked c.args.asked _ _ c.in-Ok.is (λ isnt. code_told (λ input. status_of input c.in-Ok.options.text) c.run-ended.result (g.R.Source.remaining c.args.reader.now) _ c.exit_code.ensures c.run-ended.ensures.status isnt)
+    if_asked c.args.asked _ _ c.in-Ok.is (λ isnt. code_told (λ input. status_of input c.in-Ok.options.text) c.run-ended.result (g.R.Source.remaining c.args.reader.now)
+    _ c.exit_code.ensures c.run-ended.ensures.status isnt)
 
 pub returns-in-Ok-clause-output : goal.returns-in-Ok-clause-output
 returns-in-Ok-clause-output g c =

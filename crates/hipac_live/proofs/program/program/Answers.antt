@@ -19,12 +19,14 @@ pub returns-in-Ok-clause-output : goal.returns-in-Ok-clause-output
 returns-in-Ok-clause-output g c =
     let file = bytes_of c.in-Ok.asked.script in
     if_asked c.args.asked _ _ c.in-Ok.is (λ isnt.
-    subst (λ (m : L.Manner). IfSome (g.R.Source.remaining c.args.reader.now) (λ input. Appends (g.W.Sink.contents c.args.writer.now) (g.W.Sink.contents c.run-ended.new.writer) (L.output m file input))) c.options_for-options.ensures.manner
+    subst (λ (m : L.Manner). IfSome (g.R.Source.remaining c.args.reader.now) (λ input. Appends (g.W.Sink.contents c.args.writer.now) (g.W.Sink.contents c.run-ended.new.writer)
+    (L.output m file input))) c.options_for-options.ensures.manner
     (unless_fault c.run-ended.result _ c.exit_code.ensures c.run-ended.ensures.output isnt))
 
 pub returns-in-Ok-clause-begins : goal.returns-in-Ok-clause-begins
 returns-in-Ok-clause-begins g c =
     let file = bytes_of c.in-Ok.asked.script in
     if_asked c.args.asked _ _ c.in-Ok.is
-    (subst (λ (m : L.Manner). IfSome (g.R.Source.remaining c.args.reader.now) (λ input. Begins (g.W.Sink.contents c.args.writer.now) (g.W.Sink.contents c.run-ended.new.writer) (L.output m file input))) c.options_for-options.ensures.manner
+    (subst (λ (m : L.Manner). IfSome (g.R.Source.remaining c.args.reader.now) (λ input. Begins (g.W.Sink.contents c.args.writer.now) (g.W.Sink.contents c.run-ended.new.writer)
+    (L.output m file input))) c.options_for-options.ensures.manner
     c.run-ended.ensures.begins)

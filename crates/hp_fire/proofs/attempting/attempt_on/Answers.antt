@@ -7,4 +7,5 @@ use Rattle.hp_fire.proofs.attempting.attempt_on.Goals as goal
 
 pub returns-clause-sound : goal.returns-clause-sound
 returns-clause-sound c = λ library first none fires.
-    attempt_sound library (task c.args.task.now) first c.args.view (firing c.args.outcome) none fires _ _ _ c.in_ok-copy.ensures.cases c.into_parts-reads.ensures.reads (ap changes c.into_parts-reads.ensures.layer)
+    attempt_sound library (task c.args.task.now) first c.args.view (firing c.args.outcome) none fires _ _ _ c.in_ok-copy.ensures.cases c.into_parts-reads.ensures.reads
+    (ap changes c.into_parts-reads.ensures.layer)

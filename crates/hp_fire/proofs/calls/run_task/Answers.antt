@@ -10,7 +10,8 @@ use Rattle.hp_fire.proofs.calls.run_task.Goals as goal
 pub returns-clause-sound : goal.returns-clause-sound
 returns-clause-sound g c =
     IfOk-weaker c.attempt_on.result _ _ (λ a sound.
-    subst (λ l. IsSound (library l) (attempt a)) (ap (λ r. r.now) c.new-engine.ensures.lib) (sound (library c.new-engine.result.lib.now) c.in_ok-view.view c.in_ok-view.ensures.writes c.in_ok-outcome.ensures))
+    subst (λ l. IsSound (library l) (attempt a)) (ap (λ r. r.now) c.new-engine.ensures.lib)
+    (sound (library c.new-engine.result.lib.now) c.in_ok-view.view c.in_ok-view.ensures.writes c.in_ok-outcome.ensures))
     c.attempt_on.ensures.sound
 
 pub returns-clause-reads_held : goal.returns-clause-reads_held

@@ -9,5 +9,6 @@ use Rattle.hp_fire.proofs.closing.as_part.Goals as goal
 
 pub returns : goal.returns
 returns c =
-    let items : items_in c.push_reserved.new.self.items ≡ T.node (what c.args.what) (ending_of (end c.args.course.end)) (course c.args.course).items T.no_items = search (rules, the_lemmas, row_items_lem) in
+    let items : items_in c.push_reserved.new.self.items ≡ T.node (what c.args.what) (ending_of (end c.args.course.end)) (course c.args.course).items T.no_items =
+    search (rules, the_lemmas, row_items_lem) in
     λ i. record { end = end c.args.after; queued = c.queued_after-queued.ensures i; detached = c.in_ok-detached.ensures i; items = items i }

@@ -11,7 +11,8 @@ use Rattle.hp_model.specs.Transactions.{abort_by, deferred_of, detached_of, done
 use Rattle.hp_model.specs.Answers.{is_done, followed, group_answer}
 use Rattle.hp_model.specs.Rules as R
 use Rattle.hp_model.specs.Rules.{Body, is_immediate, rule_at}
-use Rattle.hp_model.specs.Firing.{level_at, run_statement, run_body, with_row, with_let, task_environment, action_context, action_course, signal_in, values_of, boolean_value, choose, named_object, siblings, fire_task}
+use Rattle.hp_model.specs.Firing.{level_at, run_statement, run_body, with_row, with_let, task_environment, action_context, action_course, signal_in, values_of, boolean_value}
+use Rattle.hp_model.specs.Firing.{choose, named_object, siblings, fire_task}
 use Rattle.hp_value.specs.Mapped.{keyed_row, value, expression, primitive, rule_operation}
 use Rattle.hp_query.specs.Mapped.{aggregate, findings, keyed_rows}
 use Rattle.hp_rule.specs.declared.stmt.Stmt.TheViews.{the_lemmas}
@@ -75,16 +76,20 @@ Engine::each_row-loop-row-preserved g t c =
     let fits : SFits w64 c.row-item.result.key = search rules in
     let back : to_z w64 (of_z w64 c.row-item.result.key) ≡ c.row-item.result.key = to_z-of_z w64 c.row-item.result.key fits in
     let goes : is_done (course c.join.new.self).end ≡ true = search rules in
-    loop_next (keyed_row c.row-item.result) _ (ap (map keyed_row) (split_at c.args.rows.now c.loop-row.row-index c.row-item.result c.loop-row-test.true c.row-item.is)) c.in_ok-join.ensures goes c.loop-row.invariant
-    (body_under (body_in c.args.body.now) (c.bound-inner.ensures.context ∙ ap (λ k. with_row c.args.variable.now (record { key = k; row = c.row-item.result.row }) (context c.args.context.now)) back) c.bound-inner.ensures.depth c.in_ok-more.ensures)
+    loop_next (keyed_row c.row-item.result) _ (ap (map keyed_row) (split_at c.args.rows.now c.loop-row.row-index c.row-item.result c.loop-row-test.true c.row-item.is))
+    c.in_ok-join.ensures goes c.loop-row.invariant
+    (body_under (body_in c.args.body.now) (c.bound-inner.ensures.context
+    ∙ ap (λ k. with_row c.args.variable.now (record { key = k; row = c.row-item.result.row }) (context c.args.context.now)) back) c.bound-inner.ensures.depth c.in_ok-more.ensures)
 
 pub Engine::each_row-returns-then-not-is_done : goal.Engine::each_row-returns-then-not-is_done
 Engine::each_row-returns-then-not-is_done g t c =
     let fits : SFits w64 c.row-item.result.key = search rules in
     let back : to_z w64 (of_z w64 c.row-item.result.key) ≡ c.row-item.result.key = to_z-of_z w64 c.row-item.result.key fits in
     let stops : is_done (course c.join.new.self).end ≡ false = search rules in
-    loop_stops (keyed_row c.row-item.result) _ (ap (map keyed_row) (split_at c.args.rows.now c.loop-row.row-index c.row-item.result c.loop-row-test.true c.row-item.is)) c.in_ok-join.ensures stops c.loop-row.invariant
-    (body_under (body_in c.args.body.now) (c.bound-inner.ensures.context ∙ ap (λ k. with_row c.args.variable.now (record { key = k; row = c.row-item.result.row }) (context c.args.context.now)) back) c.bound-inner.ensures.depth c.in_ok-more.ensures)
+    loop_stops (keyed_row c.row-item.result) _ (ap (map keyed_row) (split_at c.args.rows.now c.loop-row.row-index c.row-item.result c.loop-row-test.true c.row-item.is))
+    c.in_ok-join.ensures stops c.loop-row.invariant
+    (body_under (body_in c.args.body.now) (c.bound-inner.ensures.context
+    ∙ ap (λ k. with_row c.args.variable.now (record { key = k; row = c.row-item.result.row }) (context c.args.context.now)) back) c.bound-inner.ensures.depth c.in_ok-more.ensures)
 
 pub Engine::each_row-returns : goal.Engine::each_row-returns
 Engine::each_row-returns g t c = loop_ends (ap (map keyed_row) (drop_of_length-le c.args.rows.now c.loop-row-test.false)) c.loop-row.invariant
@@ -95,14 +100,25 @@ pub Engine::signal_event-returns : goal.Engine::signal_event-returns
 Engine::signal_event-returns g t c = λ work before made.
     let lib = library c.args.self.now.lib.now in
     let is : c.args.made ≡ Ok c.in_ok-prim.prim = search rules in
-    let is_made : Made lib (level_at lib c.args.context.now.env.time c.args.context.now.depth) work before c.args.view.now (primitive c.in_ok-prim.prim) = subst (Makes primitive lib (level_at lib c.args.context.now.env.time c.args.context.now.depth) work before c.args.view.now) is made in
+    let is_made : Made lib (level_at lib c.args.context.now.env.time c.args.context.now.depth) work before c.args.view.now (primitive c.in_ok-prim.prim) =
+    subst (Makes primitive lib (level_at lib c.args.context.now.env.time c.args.context.now.depth) work before c.args.view.now) is made in
     let started = c.start-result.ensures (signal_in (level_at lib c.args.context.now.env.time c.args.context.now.depth) (primitive c.in_ok-prim.prim)) c.args.view.now
-    (signal_starts c.args.self.now.lib.now c.args.context.now.env.time c.args.context.now.depth (primitive c.in_ok-prim.prim) c.args.view.now c.trigger-tasks.new.view c.trigger-tasks.result c.trigger-tasks.ensures.triggers c.trigger-tasks.ensures.goes_on) in
+    (signal_starts c.args.self.now.lib.now c.args.context.now.env.time c.args.context.now.depth (primitive c.in_ok-prim.prim) c.args.view.now c.trigger-tasks.new.view
+    c.trigger-tasks.result c.trigger-tasks.ensures.triggers c.trigger-tasks.ensures.goes_on) in
     c.event_course.ensures lib (level_at lib c.args.context.now.env.time c.args.context.now.depth) work before c.args.view.now c.start-result.new.view is_made started
 
 pub Engine::signal_event-start-result-requires : goal.Engine::signal_event-start-result-requires
-Engine::signal_event-start-result-requires g t c = λ κs lives.
-    (omega (arith, c.decreases), (lives, (search rules, signal_ready c.args.self.now.lib.now c.args.context.now.env.time c.args.context.now.depth (primitive c.in_ok-prim.prim) c.args.view.now c.trigger-tasks.new.view c.trigger-tasks.result c.trigger-tasks.ensures.triggers)))
+Engine::signal_event-start-result-requires g t c = λ κs lives. (
+  omega (arith, c.decreases),
+  (
+    lives,
+    (
+      search rules,
+      signal_ready c.args.self.now.lib.now c.args.context.now.env.time c.args.context.now.depth
+          (primitive c.in_ok-prim.prim) c.args.view.now c.trigger-tasks.new.view c.trigger-tasks.result c.trigger-tasks.ensures.triggers,
+    ),
+  ),
+)
 
 pub Engine::fire_task-returns-in_ok-course-in-Acts : goal.Engine::fire_task-returns-in_ok-course-in-Acts
 Engine::fire_task-returns-in_ok-course-in-Acts g t c =
@@ -114,11 +130,14 @@ Engine::fire_task-returns-in_ok-course-in-Acts g t c =
     let acts : ThenActs lib (λ S. fire_task lib S fired) fired c.args.view.now c.decide.new.view (what c.in-Acts.what) found =
     subst (λ (f : RustFindings). ThenActs lib (λ S. fire_task lib S fired) fired c.args.view.now c.decide.new.view (what c.in-Acts.what) (findings f)) (sym c.findings.ensures) decided in
     let action = (rule_at lib fired.rule).action in
-    let ran : Runs lib (run_body action (level_at lib c.of_action-context.result.env.time c.of_action-context.result.depth) (context c.of_action-context.result)) c.decide.new.view c.statements.new.view (course c.in_ok-course-in-Acts.course) =
-    subst (λ (b : Body). Runs lib (run_body b (level_at lib c.of_action-context.result.env.time c.of_action-context.result.depth) (context c.of_action-context.result)) c.decide.new.view c.statements.new.view (course c.in_ok-course-in-Acts.course)) c.action_of.ensures.action
+    let ran : Runs lib (run_body action (level_at lib c.of_action-context.result.env.time c.of_action-context.result.depth) (context c.of_action-context.result))
+    c.decide.new.view c.statements.new.view (course c.in_ok-course-in-Acts.course) =
+    subst (λ (b : Body). Runs lib (run_body b (level_at lib c.of_action-context.result.env.time c.of_action-context.result.depth) (context c.of_action-context.result))
+    c.decide.new.view c.statements.new.view (course c.in_ok-course-in-Acts.course)) c.action_of.ensures.action
     c.in_ok-course-in-Acts.ensures in
     let here : Runs lib (action_course (level_at lib fired.now fired.depth) fired found) c.decide.new.view c.statements.new.view (course c.in_ok-course-in-Acts.course) =
-    subst (λ n. Runs lib (run_body action (level_at lib n fired.depth) (action_context fired found)) c.decide.new.view c.statements.new.view (course c.in_ok-course-in-Acts.course)) (findings_now (task_environment fired) found)
+    subst (λ n. Runs lib (run_body action (level_at lib n fired.depth) (action_context fired found)) c.decide.new.view c.statements.new.view (course c.in_ok-course-in-Acts.course))
+    (findings_now (task_environment fired) found)
     (body_under action c.of_action-context.ensures.context c.of_action-context.ensures.depth ran) in
     IfOk-weaker c.close_action.result _ _ (λ o closes. acts_runs acts (closes found c.decide.new.view here (sym c.enter-mark.ensures))) c.close_action.ensures
 
@@ -153,7 +172,8 @@ Engine::start-fire_group-requires g t c = λ κs lives.
     let ready = are_ready c.args.self.now.lib.now c.args.depth c.args.tasks c.in_ok-tasks.tasks is c.requires.tasks in
     let long : length c.in_ok-tasks.tasks.items ≡ c.in_ok-tasks.tasks.len = search rules in
     let some : c.in_ok-tasks.tasks.items ≡ [] → ⊥ = λ e. let zero : c.in_ok-tasks.tasks.len ≡ 0 = sym long ∙ ap length e in search rules in
-    let now : map task c.deref.result.now ≡ filter (λ (u : Task). is_immediate u.place) (map task c.in_ok-tasks.tasks.items) = ap (map task) c.deref.ensures.value ∙ c.in_ok-placed.ensures.immediate ∙ ap (λ ts. filter (λ (u : Task). is_immediate u.place) (map task ts)) c.in-Err.ensures.others in
+    let now : map task c.deref.result.now ≡ filter (λ (u : Task). is_immediate u.place) (map task c.in_ok-tasks.tasks.items) =
+    ap (map task) c.deref.ensures.value ∙ c.in_ok-placed.ensures.immediate ∙ ap (λ ts. filter (λ (u : Task). is_immediate u.place) (map task ts)) c.in-Err.ensures.others in
     let falls = group_measure c.args.self.now.lib.now c.args.depth c.in_ok-tasks.tasks.items ready some in
     let at = tasks_at c.args.depth c.in_ok-tasks.tasks.items c.deref.result.now ready now in
     (omega (arith, falls, c.decreases), (lives, (search rules, search (at, rules))))
@@ -165,30 +185,35 @@ Engine::start-returns g t c = λ work before starts.
     let long : length c.in_ok-tasks.tasks.items ≡ c.in_ok-tasks.tasks.len = search rules in
     let some : c.in_ok-tasks.tasks.items ≡ [] → ⊥ = λ e. let zero : c.in_ok-tasks.tasks.len ≡ 0 = sym long ∙ ap length e in search rules in
     let same = c.in-Err.ensures.others in
-    let now : map task c.deref.result.now ≡ filter (λ (u : Task). is_immediate u.place) (map task c.in_ok-tasks.tasks.items) = ap (map task) c.deref.ensures.value ∙ c.in_ok-placed.ensures.immediate ∙ ap (λ ts. filter (λ (u : Task). is_immediate u.place) (map task ts)) same in
+    let now : map task c.deref.result.now ≡ filter (λ (u : Task). is_immediate u.place) (map task c.in_ok-tasks.tasks.items) =
+    ap (map task) c.deref.ensures.value ∙ c.in_ok-placed.ensures.immediate ∙ ap (λ ts. filter (λ (u : Task). is_immediate u.place) (map task ts)) same in
     let queued = c.in_ok-placed.ensures.queued ∙ ap (λ ts. deferred_of (map task ts)) same in
     let apart = c.in_ok-placed.ensures.detached ∙ ap (λ ts. map unreleased (detached_of (map task ts))) same in
     (then_starts c.args.self.now.lib.now c.args.depth work before c.args.view.now c.args.tasks c.in_ok-tasks.tasks is starts).then_runs
     (runs_answer (c.in_ok-course.ensures ∙ (λ i. followed (record { end = done; queued = queued i; detached = apart i; items = no_items }) (group_answer (group c.in_ok-group.group))))
     (start_runs (map task c.in_ok-tasks.tasks.items) ready (λ e. some (map_none task c.in_ok-tasks.tasks.items e))
-    (subst (λ ts. RunsGroup (library c.args.self.now.lib.now) (siblings (fire_task (library c.args.self.now.lib.now)) true ts) c.args.view.now c.fire_group.new.view (group c.in_ok-group.group)) now c.in_ok-group.ensures)))
+    (subst (λ ts. RunsGroup (library c.args.self.now.lib.now) (siblings (fire_task (library c.args.self.now.lib.now)) true ts) c.args.view.now c.fire_group.new.view
+    (group c.in_ok-group.group)) now c.in_ok-group.ensures)))
 
 -- ---- the statements
 
 pub Engine::statement-returns-in-Create : goal.Engine::statement-returns-in-Create
 Engine::statement-returns-in-Create g t c =
     let is : R.create c.in-Create.class (expression c.deref.result.now) (map assignment c.deref-in-Create.result.now) ≡ statement c.args.stmt.now = search (rules, the_lemmas) in
-    steps_at (library c.args.self.now.lib.now) (level_at (library c.args.self.now.lib.now) c.args.context.now.env.time c.args.context.now.depth) (context c.args.context.now) c.args.view.now c.signal_event.new.view c.signal_event.result is (c.signal_event.ensures _ c.args.view.now c.create_object.ensures)
+    steps_at (library c.args.self.now.lib.now) (level_at (library c.args.self.now.lib.now) c.args.context.now.env.time c.args.context.now.depth)
+    (context c.args.context.now) c.args.view.now c.signal_event.new.view c.signal_event.result is (c.signal_event.ensures _ c.args.view.now c.create_object.ensures)
 
 pub Engine::statement-returns-in-Update : goal.Engine::statement-returns-in-Update
 Engine::statement-returns-in-Update g t c =
     let is : R.update c.in-Update.class (expression c.deref-in-Update.result.now) (map assignment c.deref-in-Update-2.result.now) ≡ statement c.args.stmt.now = search (rules, the_lemmas) in
-    steps_at (library c.args.self.now.lib.now) (level_at (library c.args.self.now.lib.now) c.args.context.now.env.time c.args.context.now.depth) (context c.args.context.now) c.args.view.now c.signal_event-in-Update.new.view c.signal_event-in-Update.result is (c.signal_event-in-Update.ensures _ c.args.view.now c.update_object.ensures)
+    steps_at (library c.args.self.now.lib.now) (level_at (library c.args.self.now.lib.now) c.args.context.now.env.time c.args.context.now.depth)
+    (context c.args.context.now) c.args.view.now c.signal_event-in-Update.new.view c.signal_event-in-Update.result is (c.signal_event-in-Update.ensures _ c.args.view.now c.update_object.ensures)
 
 pub Engine::statement-returns-in-Delete : goal.Engine::statement-returns-in-Delete
 Engine::statement-returns-in-Delete g t c =
     let is : R.delete c.in-Delete.class (expression c.deref-in-Delete.result.now) ≡ statement c.args.stmt.now = search (rules, the_lemmas) in
-    steps_at (library c.args.self.now.lib.now) (level_at (library c.args.self.now.lib.now) c.args.context.now.env.time c.args.context.now.depth) (context c.args.context.now) c.args.view.now c.signal_event-in-Delete.new.view c.signal_event-in-Delete.result is (c.signal_event-in-Delete.ensures _ c.args.view.now c.delete_object.ensures)
+    steps_at (library c.args.self.now.lib.now) (level_at (library c.args.self.now.lib.now) c.args.context.now.env.time c.args.context.now.depth)
+    (context c.args.context.now) c.args.view.now c.signal_event-in-Delete.new.view c.signal_event-in-Delete.result is (c.signal_event-in-Delete.ensures _ c.args.view.now c.delete_object.ensures)
 
 pub Engine::statement-returns-in-Signal : goal.Engine::statement-returns-in-Signal
 Engine::statement-returns-in-Signal g t c =
@@ -196,22 +221,29 @@ Engine::statement-returns-in-Signal g t c =
     let level = level_at (library c.args.self.now.lib.now) c.args.context.now.env.time c.args.context.now.depth in
     let values = values_of (context c.args.context.now).environment (map expression c.deref-in-Signal-2.result.now) in
     steps_at (library c.args.self.now.lib.now) level (context c.args.context.now) c.args.view.now c.signal_event-in-Signal.new.view c.signal_event-in-Signal.result is
-    (c.signal_event-in-Signal.ensures _ c.args.view.now (signal_makes primitive (library c.args.self.now.lib.now) level c.deref-in-Signal.result.now values c.args.view.now c.make_signal.result c.make_signal.ensures))
+    (c.signal_event-in-Signal.ensures _ c.args.view.now (signal_makes primitive (library c.args.self.now.lib.now) level c.deref-in-Signal.result.now
+    values c.args.view.now c.make_signal.result c.make_signal.ensures))
 
 pub Engine::statement-returns-in-Emit : goal.Engine::statement-returns-in-Emit
 Engine::statement-returns-in-Emit g t c =
     let is : R.emit (expression c.deref-in-Emit.result.now) ≡ statement c.args.stmt.now = search (rules, the_lemmas) in
-    steps_at (library c.args.self.now.lib.now) (level_at (library c.args.self.now.lib.now) c.args.context.now.env.time c.args.context.now.depth) (context c.args.context.now) c.args.view.now c.args.view.now c.emit.result is (c.emit.ensures c.args.view.now (library c.args.self.now.lib.now) (level_at (library c.args.self.now.lib.now) c.args.context.now.env.time c.args.context.now.depth))
+    steps_at (library c.args.self.now.lib.now) (level_at (library c.args.self.now.lib.now) c.args.context.now.env.time c.args.context.now.depth)
+    (context c.args.context.now) c.args.view.now c.args.view.now c.emit.result is (c.emit.ensures c.args.view.now (library c.args.self.now.lib.now)
+    (level_at (library c.args.self.now.lib.now) c.args.context.now.env.time c.args.context.now.depth))
 
 pub Engine::statement-returns-in-If : goal.Engine::statement-returns-in-If
 Engine::statement-returns-in-If g t c =
-    let is : R.when (expression c.deref-in-If.result.now) (body_in c.deref-in-If-2.result.now) (body_in c.deref-in-If-3.result.now) ≡ statement c.args.stmt.now = search (rules, the_lemmas, row_body_lem) in
-    steps_at (library c.args.self.now.lib.now) (level_at (library c.args.self.now.lib.now) c.args.context.now.env.time c.args.context.now.depth) (context c.args.context.now) c.args.view.now c.run_branch.new.view c.run_branch.result is c.run_branch.ensures
+    let is : R.when (expression c.deref-in-If.result.now) (body_in c.deref-in-If-2.result.now) (body_in c.deref-in-If-3.result.now) ≡ statement c.args.stmt.now =
+    search (rules, the_lemmas, row_body_lem) in
+    steps_at (library c.args.self.now.lib.now) (level_at (library c.args.self.now.lib.now) c.args.context.now.env.time c.args.context.now.depth)
+    (context c.args.context.now) c.args.view.now c.run_branch.new.view c.run_branch.result is c.run_branch.ensures
 
 pub Engine::statement-returns-in-Each : goal.Engine::statement-returns-in-Each
 Engine::statement-returns-in-Each g t c =
-    let is : R.each c.deref-in-Each.result.now c.in-Each.class (expression c.deref-in-Each-2.result.now) (body_in c.deref-in-Each-3.result.now) ≡ statement c.args.stmt.now = search (rules, the_lemmas, row_body_lem) in
-    steps_at (library c.args.self.now.lib.now) (level_at (library c.args.self.now.lib.now) c.args.context.now.env.time c.args.context.now.depth) (context c.args.context.now) c.args.view.now c.each_found.new.view c.each_found.result is c.each_found.ensures
+    let is : R.each c.deref-in-Each.result.now c.in-Each.class (expression c.deref-in-Each-2.result.now) (body_in c.deref-in-Each-3.result.now) ≡ statement c.args.stmt.now =
+    search (rules, the_lemmas, row_body_lem) in
+    steps_at (library c.args.self.now.lib.now) (level_at (library c.args.self.now.lib.now) c.args.context.now.env.time c.args.context.now.depth)
+    (context c.args.context.now) c.args.view.now c.each_found.new.view c.each_found.result is c.each_found.ensures
 
 pub Engine::statement-returns-in-For : goal.Engine::statement-returns-in-For
 Engine::statement-returns-in-For g t c =
@@ -221,40 +253,48 @@ Engine::statement-returns-in-For g t c =
     let level = level_at (library c.args.self.now.lib.now) c.args.context.now.env.time c.args.context.now.depth in
     let is : R.for_answer c.deref-query.result.now (body_in c.deref-in-For.result.now) ≡ statement c.args.stmt.now = search (rules, the_lemmas, row_body_lem) in
     steps_at lib level (context c.args.context.now) c.args.view.now c.each_row.new.view c.each_row.result is
-    (subst (λ rs. Steps lib (for_each rs (λ r. run_body body level (with_row name r (context c.args.context.now)))) c.args.view.now c.each_row.new.view c.each_row.result) c.kept-rows.ensures c.each_row.ensures)
+    (subst (λ rs. Steps lib (for_each rs (λ r. run_body body level (with_row name r (context c.args.context.now)))) c.args.view.now c.each_row.new.view c.each_row.result)
+    c.kept-rows.ensures c.each_row.ensures)
 
 pub Engine::statement-returns-in-With : goal.Engine::statement-returns-in-With
 Engine::statement-returns-in-With g t c =
     let is : R.with_object c.deref-in-With.result.now c.in-With.class (expression c.deref-in-With-2.result.now) (body_in c.deref-in-With-3.result.now) ≡ statement c.args.stmt.now =
     (λ i. R.with_object (c.deref-in-With.ensures i) c.in-With.class (expression (c.deref-in-With-2.ensures i)) (body_in (c.deref-in-With-3.ensures.value i)))
     ∙ with_is c.args.stmt.now c.in-With.variable c.in-With.class c.in-With.key c.in-With.body c.in-With.is in
-    steps_at (library c.args.self.now.lib.now) (level_at (library c.args.self.now.lib.now) c.args.context.now.env.time c.args.context.now.depth) (context c.args.context.now) c.args.view.now c.with_object.new.view c.with_object.result is c.with_object.ensures
+    steps_at (library c.args.self.now.lib.now) (level_at (library c.args.self.now.lib.now) c.args.context.now.env.time c.args.context.now.depth)
+    (context c.args.context.now) c.args.view.now c.with_object.new.view c.with_object.result is c.with_object.ensures
 
 pub Engine::statement-returns-in-Sub : goal.Engine::statement-returns-in-Sub
 Engine::statement-returns-in-Sub g t c =
     let is : R.subtransaction (body_in c.deref-in-Sub.result.now) (body_in c.deref-in-Sub-2.result.now) ≡ statement c.args.stmt.now = search (rules, the_lemmas, row_body_lem) in
-    steps_at (library c.args.self.now.lib.now) (level_at (library c.args.self.now.lib.now) c.args.context.now.env.time c.args.context.now.depth) (context c.args.context.now) c.args.view.now c.sub_or_otherwise.new.view c.sub_or_otherwise.result is c.sub_or_otherwise.ensures
+    steps_at (library c.args.self.now.lib.now) (level_at (library c.args.self.now.lib.now) c.args.context.now.env.time c.args.context.now.depth)
+    (context c.args.context.now) c.args.view.now c.sub_or_otherwise.new.view c.sub_or_otherwise.result is c.sub_or_otherwise.ensures
 
 pub Engine::statement-returns-in-Abort : goal.Engine::statement-returns-in-Abort
 Engine::statement-returns-in-Abort g t c =
     let is : R.abort ≡ statement c.args.stmt.now = search (rules, the_lemmas) in
-    runs_at (level_at (library c.args.self.now.lib.now) c.args.context.now.env.time c.args.context.now.depth) (context c.args.context.now) is (runs_answer c.ended.ensures (runs_ends (abort_by requested) c.args.view.now))
+    runs_at (level_at (library c.args.self.now.lib.now) c.args.context.now.env.time c.args.context.now.depth) (context c.args.context.now) is
+    (runs_answer c.ended.ensures (runs_ends (abort_by requested) c.args.view.now))
 
 pub Engine::statement-returns-in-Let : goal.Engine::statement-returns-in-Let
 Engine::statement-returns-in-Let g t c =
     let is : R.let_value c.deref-in-Let.result.now (aggregate c.in-Let.aggregate) (body_in c.deref-in-Let-2.result.now) ≡ statement c.args.stmt.now = search (rules, the_lemmas, row_body_lem) in
-    steps_at (library c.args.self.now.lib.now) (level_at (library c.args.self.now.lib.now) c.args.context.now.env.time c.args.context.now.depth) (context c.args.context.now) c.args.view.now c.with_let.new.view c.with_let.result is c.with_let.ensures
+    steps_at (library c.args.self.now.lib.now) (level_at (library c.args.self.now.lib.now) c.args.context.now.env.time c.args.context.now.depth)
+    (context c.args.context.now) c.args.view.now c.with_let.new.view c.with_let.result is c.with_let.ensures
 
 pub Engine::statement-returns-in-Veto : goal.Engine::statement-returns-in-Veto
 Engine::statement-returns-in-Veto g t c =
     let level = level_at (library c.args.self.now.lib.now) c.args.context.now.env.time c.args.context.now.depth in
     let is = veto_is c.args.stmt.now c.in-Veto.message c.in-Veto.is in
-    steps_at (library c.args.self.now.lib.now) level (context c.args.context.now) c.args.view.now c.args.view.now c.run_veto.result is (c.run_veto.ensures (library c.args.self.now.lib.now) level c.args.view.now)
+    steps_at (library c.args.self.now.lib.now) level (context c.args.context.now) c.args.view.now c.args.view.now c.run_veto.result is
+    (c.run_veto.ensures (library c.args.self.now.lib.now) level c.args.view.now)
 
 pub Engine::statement-returns-in-OnRule : goal.Engine::statement-returns-in-OnRule
 Engine::statement-returns-in-OnRule g t c =
     let is : R.on_rule (rule_operation c.in-OnRule.operation) c.in-OnRule.rule ≡ statement c.args.stmt.now = search (rules, the_lemmas) in
-    steps_at (library c.args.self.now.lib.now) (level_at (library c.args.self.now.lib.now) c.args.context.now.env.time c.args.context.now.depth) (context c.args.context.now) c.args.view.now c.change_rule.new.view c.change_rule.result is (c.change_rule.ensures (level_at (library c.args.self.now.lib.now) c.args.context.now.env.time c.args.context.now.depth) (context c.args.context.now))
+    steps_at (library c.args.self.now.lib.now) (level_at (library c.args.self.now.lib.now) c.args.context.now.env.time c.args.context.now.depth)
+    (context c.args.context.now) c.args.view.now c.change_rule.new.view c.change_rule.result is
+    (c.change_rule.ensures (level_at (library c.args.self.now.lib.now) c.args.context.now.env.time c.args.context.now.depth) (context c.args.context.now))
 
 pub Engine::statement-returns-in-Fire : goal.Engine::statement-returns-in-Fire
 Engine::statement-returns-in-Fire g t c =
@@ -269,31 +309,40 @@ pub Engine::run_branch-returns-in_err-is_true : goal.Engine::run_branch-returns-
 Engine::run_branch-returns-in_err-is_true g t c =
     let p = err_from_is_err_and c.from_residual.result c.from_residual.ensures.1 in
     rw (p.1, p.2)
-    (steps_halt (λ b. b) (λ S b. choose b (run_body (body_in c.args.then_body.now) (level_at (library c.args.self.now.lib.now) c.args.context.now.env.time c.args.context.now.depth) (context c.args.context.now)) (run_body (body_in c.args.else_body.now) (level_at (library c.args.self.now.lib.now) c.args.context.now.env.time c.args.context.now.depth) (context c.args.context.now)))
+    (steps_halt (λ b. b) (λ S b. choose b (run_body (body_in c.args.then_body.now) (level_at (library c.args.self.now.lib.now) c.args.context.now.env.time c.args.context.now.depth)
+    (context c.args.context.now)) (run_body (body_in c.args.else_body.now) (level_at (library c.args.self.now.lib.now) c.args.context.now.env.time c.args.context.now.depth)
+    (context c.args.context.now)))
     (boolean_value (context c.args.context.now).environment (expression c.args.condition.now)) c.in_err-is_true.field-0.0 (library c.args.self.now.lib.now) c.args.view.now c.in_err-is_true.ensures)
 
 pub Engine::run_branch-returns-in_ok-course : goal.Engine::run_branch-returns-in_ok-course
 Engine::run_branch-returns-in_ok-course g t c =
-    runs_value (λ b. choose b (run_body (body_in c.args.then_body.now) (level_at (library c.args.self.now.lib.now) c.args.context.now.env.time c.args.context.now.depth) (context c.args.context.now)) (run_body (body_in c.args.else_body.now) (level_at (library c.args.self.now.lib.now) c.args.context.now.env.time c.args.context.now.depth) (context c.args.context.now)))
+    runs_value (λ b. choose b (run_body (body_in c.args.then_body.now) (level_at (library c.args.self.now.lib.now) c.args.context.now.env.time c.args.context.now.depth)
+    (context c.args.context.now)) (run_body (body_in c.args.else_body.now) (level_at (library c.args.self.now.lib.now) c.args.context.now.env.time c.args.context.now.depth)
+    (context c.args.context.now)))
     (boolean_value (context c.args.context.now).environment (expression c.args.condition.now)) true (ap Ok (sym c.if-branch.true) ∙ c.in_ok-is_true.ensures) c.in_ok-course.ensures
 
 pub Engine::run_branch-returns-in_ok-course-2 : goal.Engine::run_branch-returns-in_ok-course-2
 Engine::run_branch-returns-in_ok-course-2 g t c =
-    runs_value (λ b. choose b (run_body (body_in c.args.then_body.now) (level_at (library c.args.self.now.lib.now) c.args.context.now.env.time c.args.context.now.depth) (context c.args.context.now)) (run_body (body_in c.args.else_body.now) (level_at (library c.args.self.now.lib.now) c.args.context.now.env.time c.args.context.now.depth) (context c.args.context.now)))
+    runs_value (λ b. choose b (run_body (body_in c.args.then_body.now) (level_at (library c.args.self.now.lib.now) c.args.context.now.env.time c.args.context.now.depth)
+    (context c.args.context.now)) (run_body (body_in c.args.else_body.now) (level_at (library c.args.self.now.lib.now) c.args.context.now.env.time c.args.context.now.depth)
+    (context c.args.context.now)))
     (boolean_value (context c.args.context.now).environment (expression c.args.condition.now)) false (ap Ok (sym c.if-branch.false) ∙ c.in_ok-is_true.ensures) c.in_ok-course-2.ensures
 
 pub Engine::each_found-returns-in_err-rows : goal.Engine::each_found-returns-in_err-rows
 Engine::each_found-returns-in_err-rows g t c =
     let p = err_from_is_err_and c.from_residual.result c.from_residual.ensures.1 in
     rw (p.1, p.2)
-    (found_halt keyed_rows (λ rows. for_each rows (λ r. run_body (body_in c.args.body.now) (level_at (library c.args.self.now.lib.now) c.args.context.now.env.time c.args.context.now.depth) (with_row c.args.selection.variable.now r (context c.args.context.now))))
+    (found_halt keyed_rows (λ rows. for_each rows (λ r. run_body (body_in c.args.body.now) (level_at (library c.args.self.now.lib.now) c.args.context.now.env.time c.args.context.now.depth)
+    (with_row c.args.selection.variable.now r (context c.args.context.now))))
     (λ S. answer (context c.args.context.now).environment c.args.selection.variable.now c.args.selection.class (expression c.args.selection.predicate.now) S.objects) c.in_err-rows.field-0.0
     (library c.args.self.now.lib.now) c.args.view.now c.select_rows.new.view c.in_err-rows.ensures)
 
 pub Engine::each_found-returns : goal.Engine::each_found-returns
 Engine::each_found-returns g t c =
-    let work = λ (r : KeyedRow). run_body (body_in c.args.body.now) (level_at (library c.args.self.now.lib.now) c.args.context.now.env.time c.args.context.now.depth) (with_row c.args.selection.variable.now r (context c.args.context.now)) in
-    found_steps (library c.args.self.now.lib.now) (λ S. answer (context c.args.context.now).environment c.args.selection.variable.now c.args.selection.class (expression c.args.selection.predicate.now) S.objects)
+    let work = λ (r : KeyedRow). run_body (body_in c.args.body.now) (level_at (library c.args.self.now.lib.now) c.args.context.now.env.time c.args.context.now.depth)
+    (with_row c.args.selection.variable.now r (context c.args.context.now)) in
+    found_steps (library c.args.self.now.lib.now) (λ S. answer (context c.args.context.now).environment c.args.selection.variable.now c.args.selection.class
+    (expression c.args.selection.predicate.now) S.objects)
     (λ rs. for_each rs work) (map keyed_row c.in_ok-rows.rows.items) c.args.view.now c.select_rows.new.view c.each_row.new.view c.each_row.result c.in_ok-rows.ensures
     (subst (λ rs. Steps (library c.args.self.now.lib.now) (for_each (map keyed_row rs) work) c.select_rows.new.view c.each_row.new.view c.each_row.result) c.deref.ensures.value c.each_row.ensures)
 
@@ -301,7 +350,8 @@ pub Engine::with_object-returns-in_err-row : goal.Engine::with_object-returns-in
 Engine::with_object-returns-in_err-row g t c =
     let p = err_from_is_err_and c.from_residual.result c.from_residual.ensures.1 in
     rw (p.1, p.2)
-    (found_halt keyed_row (λ r. run_body (body_in c.args.body.now) (level_at (library c.args.self.now.lib.now) c.args.context.now.env.time c.args.context.now.depth) (with_row c.args.binding.variable.now r (context c.args.context.now)))
+    (found_halt keyed_row (λ r. run_body (body_in c.args.body.now) (level_at (library c.args.self.now.lib.now) c.args.context.now.env.time c.args.context.now.depth)
+    (with_row c.args.binding.variable.now r (context c.args.context.now)))
     (λ S. named_object S.objects (context c.args.context.now).environment c.args.binding.class (expression c.args.binding.key.now)) c.in_err-row.field-0.0
     (library c.args.self.now.lib.now) c.args.view.now c.named_object.new.view c.in_err-row.ensures)
 
@@ -310,32 +360,38 @@ Engine::with_object-returns g t c =
     let x = c.args.binding.variable.now in
     let fits : SFits w64 c.in_ok-row.row.key = search rules in
     let back : to_z w64 (of_z w64 c.in_ok-row.row.key) ≡ c.in_ok-row.row.key = to_z-of_z w64 c.in_ok-row.row.key fits in
-    found_value (λ r. run_body (body_in c.args.body.now) (level_at (library c.args.self.now.lib.now) c.args.context.now.env.time c.args.context.now.depth) (with_row x r (context c.args.context.now))) c.in_ok-row.ensures
-    (body_under (body_in c.args.body.now) (c.bound-inner.ensures.context ∙ ap (λ k. with_row x (record { key = k; row = c.in_ok-row.row.row }) (context c.args.context.now)) back) c.bound-inner.ensures.depth c.in_ok-course.ensures)
+    found_value (λ r. run_body (body_in c.args.body.now) (level_at (library c.args.self.now.lib.now) c.args.context.now.env.time c.args.context.now.depth)
+    (with_row x r (context c.args.context.now))) c.in_ok-row.ensures
+    (body_under (body_in c.args.body.now) (c.bound-inner.ensures.context ∙ ap (λ k. with_row x (record { key = k; row = c.in_ok-row.row.row }) (context c.args.context.now)) back)
+    c.bound-inner.ensures.depth c.in_ok-course.ensures)
 
 pub Engine::with_let-returns-in_err-value : goal.Engine::with_let-returns-in_err-value
 Engine::with_let-returns-in_err-value g t c =
     let p = err_from_is_err_and c.from_residual.result c.from_residual.ensures.1 in
     rw (p.1, p.2)
-    (found_halt value (λ v. run_body (body_in c.args.body.now) (level_at (library c.args.self.now.lib.now) c.args.context.now.env.time c.args.context.now.depth) (with_let c.args.name.now v (context c.args.context.now)))
+    (found_halt value (λ v. run_body (body_in c.args.body.now) (level_at (library c.args.self.now.lib.now) c.args.context.now.env.time c.args.context.now.depth)
+    (with_let c.args.name.now v (context c.args.context.now)))
     (λ S. let_of S.objects (context c.args.context.now).environment (aggregate c.args.aggregate.now)) c.in_err-value.field-0.0
     (library c.args.self.now.lib.now) c.args.view.now c.let_value.new.view c.in_err-value.ensures)
 
 pub Engine::with_let-returns : goal.Engine::with_let-returns
 Engine::with_let-returns g t c =
-    found_value (λ v. run_body (body_in c.args.body.now) (level_at (library c.args.self.now.lib.now) c.args.context.now.env.time c.args.context.now.depth) (with_let c.args.name.now v (context c.args.context.now))) c.in_ok-value.ensures
+    found_value (λ v. run_body (body_in c.args.body.now) (level_at (library c.args.self.now.lib.now) c.args.context.now.env.time c.args.context.now.depth)
+    (with_let c.args.name.now v (context c.args.context.now))) c.in_ok-value.ensures
     (body_under (body_in c.args.body.now) c.holding-inner.ensures.context c.holding-inner.ensures.depth c.in_ok-course.ensures)
 
 pub Engine::sub_or_otherwise-returns-then-not-aborted : goal.Engine::sub_or_otherwise-returns-then-not-aborted
 Engine::sub_or_otherwise-returns-then-not-aborted g t c =
     let work = (run_body (body_in c.args.body.now) (level_at (library c.args.self.now.lib.now) c.args.context.now.env.time c.args.context.now.depth) (context c.args.context.now)) in
-    let ran : SubRuns (library c.args.self.now.lib.now) work c.args.view.now c.close_sub.new.view (course c.in_ok-course.course) c.in_ok-course.aborted = c.in_ok-course.ensures (library c.args.self.now.lib.now) work c.args.view.now c.in_ok-inside.ensures (sym c.enter-mark.ensures) in
+    let ran : SubRuns (library c.args.self.now.lib.now) work c.args.view.now c.close_sub.new.view (course c.in_ok-course.course) c.in_ok-course.aborted =
+    c.in_ok-course.ensures (library c.args.self.now.lib.now) work c.args.view.now c.in_ok-inside.ensures (sym c.enter-mark.ensures) in
     sub_over (run_body (body_in c.args.otherwise.now) (level_at (library c.args.self.now.lib.now) c.args.context.now.env.time c.args.context.now.depth) (context c.args.context.now))
     (subst (λ b. SubRuns (library c.args.self.now.lib.now) work c.args.view.now c.close_sub.new.view (course c.in_ok-course.course) b) c.if-not-aborted.true ran)
 
 pub Engine::sub_or_otherwise-returns : goal.Engine::sub_or_otherwise-returns
 Engine::sub_or_otherwise-returns g t c =
     let work = (run_body (body_in c.args.body.now) (level_at (library c.args.self.now.lib.now) c.args.context.now.env.time c.args.context.now.depth) (context c.args.context.now)) in
-    let ran : SubRuns (library c.args.self.now.lib.now) work c.args.view.now c.close_sub.new.view (course c.in_ok-course.course) c.in_ok-course.aborted = c.in_ok-course.ensures (library c.args.self.now.lib.now) work c.args.view.now c.in_ok-inside.ensures (sym c.enter-mark.ensures) in
+    let ran : SubRuns (library c.args.self.now.lib.now) work c.args.view.now c.close_sub.new.view (course c.in_ok-course.course) c.in_ok-course.aborted =
+    c.in_ok-course.ensures (library c.args.self.now.lib.now) work c.args.view.now c.in_ok-inside.ensures (sym c.enter-mark.ensures) in
     runs_answer c.in_ok-join.ensures
     (sub_then (subst (λ b. SubRuns (library c.args.self.now.lib.now) work c.args.view.now c.close_sub.new.view (course c.in_ok-course.course) b) c.if-not-aborted.false ran) c.in_ok-more.ensures)

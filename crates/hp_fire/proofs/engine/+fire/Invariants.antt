@@ -64,4 +64,5 @@ invariant-Engine::in_order-loop-stmt g l =
 abbrev pub invariant-Engine::each_row-loop-row : goal.invariant-Engine::each_row-loop-row
 invariant-Engine::each_row-loop-row g l =
     Loop (library l.self.lib.now) (λ r. run_body (body_in l.body) (level_at (library l.self.lib.now) l.context.env.time l.context.depth) (with_row l.variable r (context l.context)))
-    (for_each (map keyed_row l.rows) (λ r. run_body (body_in l.body) (level_at (library l.self.lib.now) l.context.env.time l.context.depth) (with_row l.variable r (context l.context)))) (map keyed_row (drop l.row-index l.rows)) l.fn.view l.view (course l.so_far)
+    (for_each (map keyed_row l.rows) (λ r. run_body (body_in l.body) (level_at (library l.self.lib.now) l.context.env.time l.context.depth) (with_row l.variable r (context l.context))))
+    (map keyed_row (drop l.row-index l.rows)) l.fn.view l.view (course l.so_far)

@@ -15,7 +15,8 @@ pub returns-in_err-value : goal.returns-in_err-value
 returns-in_err-value c = λ view library level.
     let p = err_from_is_err_and c.from_residual.result c.from_residual.ensures.1 in
     rw (p.1, p.2)
-    (steps_halt value (λ S v. with_items (emission v no_items)) (value_of (environment c.args.context.now.env) (expression c.args.expr.now)) c.in_err-value.field-0.0 library view c.in_err-value.ensures)
+    (steps_halt value (λ S v. with_items (emission v no_items)) (value_of (environment c.args.context.now.env) (expression c.args.expr.now)) c.in_err-value.field-0.0
+    library view c.in_err-value.ensures)
 
 pub returns : goal.returns
 returns c = λ view library level.

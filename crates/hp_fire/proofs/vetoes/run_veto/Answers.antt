@@ -11,8 +11,10 @@ use Rattle.hp_fire.proofs.vetoes.run_veto.Goals as goal
 pub returns-in-Some : goal.returns-in-Some
 returns-in-Some c = λ library level view.
     subst (λ message. Steps library (run_statement (veto_statement message) level (context c.args.context.now)) view view c.veto_saying.result) (sym c.in-Some.is)
-    (subst (λ (e : Expr). Steps library (run_statement (veto_with (expression e)) level (context c.args.context.now)) view view c.veto_saying.result) c.deref.ensures (c.veto_saying.ensures library level view))
+    (subst (λ (e : Expr). Steps library (run_statement (veto_with (expression e)) level (context c.args.context.now)) view view c.veto_saying.result)
+    c.deref.ensures (c.veto_saying.ensures library level view))
 
 pub returns-in_ok-course-in-None : goal.returns-in_ok-course-in-None
 returns-in_ok-course-in-None c = λ library level view.
-    subst (λ message. Runs library (run_statement (veto_statement message) level (context c.args.context.now)) view view (course c.in_ok-course-in-None.course)) (sym c.in-None.is) (c.in_ok-course-in-None.ensures library view)
+    subst (λ message. Runs library (run_statement (veto_statement message) level (context c.args.context.now)) view view (course c.in_ok-course-in-None.course))
+    (sym c.in-None.is) (c.in_ok-course-in-None.ensures library view)

@@ -11,8 +11,10 @@ pub returns-in_err-said : goal.returns-in_err-said
 returns-in_err-said c = λ library level view.
     let p = err_from_is_err_and c.from_residual.result c.from_residual.ensures.1 in
     rw (p.1, p.2)
-    (steps_halt value (λ S v. vetoes c.args.context.now.rule (Some v)) (value_of (environment c.args.context.now.env) (expression c.args.message.now)) c.in_err-said.field-0.0 library view c.in_err-said.ensures)
+    (steps_halt value (λ S v. vetoes c.args.context.now.rule (Some v)) (value_of (environment c.args.context.now.env) (expression c.args.message.now))
+    c.in_err-said.field-0.0 library view c.in_err-said.ensures)
 
 pub returns : goal.returns
 returns c = λ library level view.
-    runs_value (λ v. vetoes c.args.context.now.rule (Some v)) (value_of (environment c.args.context.now.env) (expression c.args.message.now)) (value c.in_ok-said.said) c.in_ok-said.ensures (c.in_ok-course.ensures library view)
+    runs_value (λ v. vetoes c.args.context.now.rule (Some v)) (value_of (environment c.args.context.now.env) (expression c.args.message.now)) (value c.in_ok-said.said)
+    c.in_ok-said.ensures (c.in_ok-course.ensures library view)

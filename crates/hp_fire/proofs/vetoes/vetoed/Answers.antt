@@ -11,7 +11,8 @@ use Rattle.hp_fire.proofs.vetoes.vetoed.Goals as goal
 pub returns-in_ok-veto-in-Some : goal.returns-in_ok-veto-in-Some
 returns-in_ok-veto-in-Some c = λ library view.
     let message = option_map value c.args.message in
-    subst (λ o. Runs library (vetoes o message) view view (course c.ended.result)) (sym c.in-Some.is) (runs_answer (c.ended.ensures ∙ ap (λ v. ended (veto_by v)) c.in_ok-veto-in-Some.ensures) (runs_ends (veto_by (record { rule = c.in-Some.rule; message = message })) view))
+    subst (λ o. Runs library (vetoes o message) view view (course c.ended.result)) (sym c.in-Some.is)
+    (runs_answer (c.ended.ensures ∙ ap (λ v. ended (veto_by v)) c.in_ok-veto-in-Some.ensures) (runs_ends (veto_by (record { rule = c.in-Some.rule; message = message })) view))
 
 pub returns-in-None : goal.returns-in-None
 returns-in-None c = λ library view.

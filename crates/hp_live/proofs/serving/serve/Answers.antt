@@ -1,7 +1,8 @@
 use Rattle.std.proofs.Common.{rules, arith, ◌≡◌, length, refl, ap, sym, Err}
 use Rattle.hp_lines.specs.Live.{after}
 use Rattle.hp_lines.proofs.Kept.{begins_whole}
-use Rattle.hp_live.proofs.Fed.{served_first, served_on, open_by, stops_whole, stops_piece, begins_output, begins_end, begins_fed, output_end, output_closed, closed_by, status_closed, status_end, kept_left, whole_in_piece, whole_at_end, begun_in_piece, begun_at_end, short_piece, stays_closed}
+use Rattle.hp_live.proofs.Fed.{served_first, served_on, open_by, stops_whole, stops_piece, begins_output, begins_end, begins_fed, output_end, output_closed, closed_by}
+use Rattle.hp_live.proofs.Fed.{status_closed, status_end, kept_left, whole_in_piece, whole_at_end, begun_in_piece, begun_at_end, short_piece, stays_closed}
 use Rattle.hp_report.specs.declared.fault.Fault.TheVariants.{NoMemory}
 use Rattle.hp_live.proofs.serving.serve.Goals as goal
 

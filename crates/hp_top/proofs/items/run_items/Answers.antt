@@ -9,7 +9,8 @@ use Rattle.hp_top.proofs.items.run_items.Goals as goal
 
 pub returns-clause-ran : goal.returns-clause-ran
 returns-clause-ran g c =
-    subst (λ l. RanUnits (library l) (map unit_of c.args.items.now) (cells_in c.args.store.now) (cells_in c.run_items.new.store) (map unit_report c.run_items.result.reports.items)) (ap (λ r. r.now) c.new.ensures.lib) c.run_items.ensures.ran
+    subst (λ l. RanUnits (library l) (map unit_of c.args.items.now) (cells_in c.args.store.now) (cells_in c.run_items.new.store) (map unit_report c.run_items.result.reports.items))
+    (ap (λ r. r.now) c.new.ensures.lib) c.run_items.ensures.ran
 
 pub returns-clause-replayed : goal.returns-clause-replayed
 returns-clause-replayed g c = units_are_replayed (returns-clause-ran g c)

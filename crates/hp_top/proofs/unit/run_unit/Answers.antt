@@ -9,7 +9,8 @@ use Rattle.hp_top.proofs.unit.run_unit.Goals as goal
 
 pub returns-clause-ran : goal.returns-clause-ran
 returns-clause-ran g c =
-    subst (λ l. RanUnit (library l) (unit_of c.args.unit.now) (cells_in c.args.store.now) (cells_in c.run_unit.new.store) (unit_report c.in_ok-report.report)) (ap (λ r. r.now) c.new.ensures.lib) c.in_ok-report.ensures.ran
+    subst (λ l. RanUnit (library l) (unit_of c.args.unit.now) (cells_in c.args.store.now) (cells_in c.run_unit.new.store) (unit_report c.in_ok-report.report))
+    (ap (λ r. r.now) c.new.ensures.lib) c.in_ok-report.ensures.ran
 
 pub returns-clause-replayed : goal.returns-clause-replayed
 returns-clause-replayed g c = unit_replayed (returns-clause-ran g c)

@@ -12,9 +12,12 @@ pub returns-in_err-set_rule : goal.returns-in_err-set_rule
 returns-in_err-set_rule g c = λ level context.
     let p = err_from_is_err_and c.from_residual.result c.from_residual.ensures.1 in
     rw (p.1, p.2)
-    (rule_halt (library c.args.self.now.lib.now) level context (rule_operation c.args.operation) c.args.rule c.in_err-set_rule.field-0.0 c.args.view.now c.set_rule.new.view c.set_rule.ensures.goes_on c.in_err-set_rule.ensures.operation)
+    (rule_halt (library c.args.self.now.lib.now) level context (rule_operation c.args.operation) c.args.rule c.in_err-set_rule.field-0.0 c.args.view.now
+    c.set_rule.new.view c.set_rule.ensures.goes_on c.in_err-set_rule.ensures.operation)
 
 pub returns : goal.returns
 returns g c = λ level context.
-    subst (λ a. Runs (library c.args.self.now.lib.now) (run_statement (on_rule (rule_operation c.args.operation) c.args.rule) level context) c.args.view.now c.set_rule.new.view a) (sym c.in_ok-course.ensures)
-    (rule_runs (library c.args.self.now.lib.now) level context (rule_operation c.args.operation) c.args.rule c.args.view.now c.set_rule.new.view c.set_rule.ensures.goes_on c.in_ok-set_rule.ensures.operation)
+    subst (λ a. Runs (library c.args.self.now.lib.now) (run_statement (on_rule (rule_operation c.args.operation) c.args.rule) level context) c.args.view.now c.set_rule.new.view a)
+    (sym c.in_ok-course.ensures)
+    (rule_runs (library c.args.self.now.lib.now) level context (rule_operation c.args.operation) c.args.rule c.args.view.now c.set_rule.new.view
+    c.set_rule.ensures.goes_on c.in_ok-set_rule.ensures.operation)

@@ -27,6 +27,8 @@ pub returns : goal.returns
 returns g c =
     let fits : SFits w64 c.in_ok-new.new.key = search rules in
     let back : to_z w64 (of_z w64 c.in_ok-new.new.key) ≡ c.in_ok-new.new.key = to_z-of_z w64 c.in_ok-new.new.key fits in
-    create_makes primitive (library c.args.self.now.lib.now) (level_at (library c.args.self.now.lib.now) c.args.context.now.env.time c.args.context.now.depth) (context c.args.context.now) c.args.class (expression c.args.key.now)
+    create_makes primitive (library c.args.self.now.lib.now) (level_at (library c.args.self.now.lib.now) c.args.context.now.env.time c.args.context.now.depth)
+    (context c.args.context.now) c.args.class (expression c.args.key.now)
     (map assignment c.args.pairs.now) (mapped.keyed_row c.in_ok-new.new) c.args.view.now c.create.new.view c.create.result c.in_ok-new.ensures c.create.ensures.goes_on
-    (subst (λ k. Performs primitive (library c.args.self.now.lib.now) (create_object c.args.class k c.in_ok-new.new.row) c.args.view.now c.create.new.view c.create.result) back (c.create.ensures.operation (library c.args.self.now.lib.now)))
+    (subst (λ k. Performs primitive (library c.args.self.now.lib.now) (create_object c.args.class k c.in_ok-new.new.row) c.args.view.now c.create.new.view c.create.result)
+    back (c.create.ensures.operation (library c.args.self.now.lib.now)))

@@ -25,6 +25,8 @@ pub returns : goal.returns
 returns g c =
     let fits : SFits w64 c.in_ok-key.key = search rules in
     let back : to_z w64 (of_z w64 c.in_ok-key.key) ≡ c.in_ok-key.key = to_z-of_z w64 c.in_ok-key.key fits in
-    delete_makes primitive (library c.args.self.now.lib.now) (level_at (library c.args.self.now.lib.now) c.args.context.now.env.time c.args.context.now.depth) (context c.args.context.now) c.args.class (expression c.args.key.now)
+    delete_makes primitive (library c.args.self.now.lib.now) (level_at (library c.args.self.now.lib.now) c.args.context.now.env.time c.args.context.now.depth)
+    (context c.args.context.now) c.args.class (expression c.args.key.now)
     c.in_ok-key.key c.args.view.now c.delete.new.view c.delete.result c.in_ok-key.ensures c.delete.ensures.goes_on
-    (subst (λ k. Performs primitive (library c.args.self.now.lib.now) (delete_object c.args.class k) c.args.view.now c.delete.new.view c.delete.result) back (c.delete.ensures.operation (library c.args.self.now.lib.now)))
+    (subst (λ k. Performs primitive (library c.args.self.now.lib.now) (delete_object c.args.class k) c.args.view.now c.delete.new.view c.delete.result)
+    back (c.delete.ensures.operation (library c.args.self.now.lib.now)))

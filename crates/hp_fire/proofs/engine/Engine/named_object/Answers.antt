@@ -16,11 +16,14 @@ pub returns-in-Some : goal.returns-in-Some
 returns-in-Some g c =
     let fits : SFits w64 c.in_ok-key.key = search rules in
     let back : to_z w64 (of_z w64 c.in_ok-key.key) ≡ c.in_ok-key.key = to_z-of_z w64 c.in_ok-key.key fits in
-    subst (λ k. Finding (library c.args.self.now.lib.now) (λ S. named_object S.objects (context c.args.context.now).environment c.args.class (expression c.args.key.now)) c.args.view.now c.find_object.new.view (Ok (record { key = k; row = c.in-Some.row }))) (sym back)
-    (named_there (library c.args.self.now.lib.now) (context c.args.context.now).environment c.args.class (expression c.args.key.now) c.in_ok-key.key c.in-Some.row c.args.view.now c.find_object.new.view
+    subst (λ k. Finding (library c.args.self.now.lib.now) (λ S. named_object S.objects (context c.args.context.now).environment c.args.class (expression c.args.key.now))
+    c.args.view.now c.find_object.new.view (Ok (record { key = k; row = c.in-Some.row }))) (sym back)
+    (named_there (library c.args.self.now.lib.now) (context c.args.context.now).environment c.args.class (expression c.args.key.now) c.in_ok-key.key
+    c.in-Some.row c.args.view.now c.find_object.new.view
     c.in_ok-key.ensures c.find_object.ensures.only
     (subst (λ k. Finds (library c.args.self.now.lib.now) (λ S. find_object S.objects c.args.class k) c.find_object.new.view.reads (written c.find_object.new.view) (Some c.in-Some.row)) back
-    (subst (λ o. Finds (library c.args.self.now.lib.now) (λ S. find_object S.objects c.args.class (to_z w64 (of_z w64 c.in_ok-key.key))) c.find_object.new.view.reads (written c.find_object.new.view) o) c.in-Some.is
+    (subst (λ o. Finds (library c.args.self.now.lib.now) (λ S. find_object S.objects c.args.class (to_z w64 (of_z w64 c.in_ok-key.key))) c.find_object.new.view.reads
+    (written c.find_object.new.view) o) c.in-Some.is
     (c.in_ok-row.ensures.finds (library c.args.self.now.lib.now)))))
 
 pub returns-in-None : goal.returns-in-None
@@ -30,5 +33,6 @@ returns-in-None g c =
     named_missing (library c.args.self.now.lib.now) (context c.args.context.now).environment c.args.class (expression c.args.key.now) c.in_ok-key.key c.args.view.now c.find_object.new.view
     c.in_ok-key.ensures c.find_object.ensures.only
     (subst (λ k. Finds (library c.args.self.now.lib.now) (λ S. find_object S.objects c.args.class k) c.find_object.new.view.reads (written c.find_object.new.view) None) back
-    (subst (λ o. Finds (library c.args.self.now.lib.now) (λ S. find_object S.objects c.args.class (to_z w64 (of_z w64 c.in_ok-key.key))) c.find_object.new.view.reads (written c.find_object.new.view) o) c.in-None.is
+    (subst (λ o. Finds (library c.args.self.now.lib.now) (λ S. find_object S.objects c.args.class (to_z w64 (of_z w64 c.in_ok-key.key))) c.find_object.new.view.reads
+    (written c.find_object.new.view) o) c.in-None.is
     (c.in_ok-row.ensures.finds (library c.args.self.now.lib.now))))

@@ -13,5 +13,6 @@ pub returns : goal.returns
 returns g c =
     let lib = c.args.self.now.lib.now in
     let started = c.start-result.ensures (signal_in (level_at (library lib) c.args.time c.args.depth) (primitive c.args.prim.now)) c.args.view.now
-    (signal_starts lib c.args.time c.args.depth (primitive c.args.prim.now) c.args.view.now c.trigger-tasks.new.view c.trigger-tasks.result c.trigger-tasks.ensures.triggers c.trigger-tasks.ensures.goes_on) in
+    (signal_starts lib c.args.time c.args.depth (primitive c.args.prim.now) c.args.view.now c.trigger-tasks.new.view c.trigger-tasks.result
+    c.trigger-tasks.ensures.triggers c.trigger-tasks.ensures.goes_on) in
     IfOk-weaker c.or_aborted.result _ _ (λ r runs. runs (library lib) _ c.args.view.now c.start-result.new.view started) c.or_aborted.ensures

@@ -27,7 +27,9 @@ pub returns : goal.returns
 returns g c =
     let fits : SFits w64 c.in_ok-key.key = search rules in
     let back : to_z w64 (of_z w64 c.in_ok-key.key) ≡ c.in_ok-key.key = to_z-of_z w64 c.in_ok-key.key fits in
-    update_makes primitive (library c.args.self.now.lib.now) (level_at (library c.args.self.now.lib.now) c.args.context.now.env.time c.args.context.now.depth) (context c.args.context.now) c.args.class (expression c.args.key.now)
+    update_makes primitive (library c.args.self.now.lib.now) (level_at (library c.args.self.now.lib.now) c.args.context.now.env.time c.args.context.now.depth)
+    (context c.args.context.now) c.args.class (expression c.args.key.now)
     (map assignment c.args.pairs.now) (keyed_in c.in_ok-key.key c.given_values.new.given.items) c.args.view.now c.update.new.view c.update.result c.in_ok-key.ensures c.update.ensures.goes_on
     (subst (λ gs. Performs primitive (library c.args.self.now.lib.now) (update_object c.args.class c.in_ok-key.key (given_in gs)) c.args.view.now c.update.new.view c.update.result) c.deref.ensures
-    (subst (λ k. Performs primitive (library c.args.self.now.lib.now) (update_object c.args.class k (given_in c.deref.result.now)) c.args.view.now c.update.new.view c.update.result) back (c.update.ensures.operation (library c.args.self.now.lib.now))))
+    (subst (λ k. Performs primitive (library c.args.self.now.lib.now) (update_object c.args.class k (given_in c.deref.result.now)) c.args.view.now c.update.new.view c.update.result)
+    back (c.update.ensures.operation (library c.args.self.now.lib.now))))

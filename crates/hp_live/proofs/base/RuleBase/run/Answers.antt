@@ -29,7 +29,8 @@ returns-clause-text g c base stands =
 
 pub returns-clause-state : goal.returns-clause-state
 returns-clause-state g c base stands =
-    let later = subst (λ us. StandsFor c.run_units.new.self (with_state base (run_units base.library (map unit us) base.state).state)) c.deref.ensures.value (c.in_ok-reports.ensures.state base stands) in
+    let later = subst (λ us. StandsFor c.run_units.new.self (with_state base (run_units base.library (map unit us) base.state).state)) c.deref.ensures.value
+    (c.in_ok-reports.ensures.state base stands) in
     let e = run_units base.library (map unit c.args.schedule.units.items) base.state in
     let items = c.in_ok-reports.reports.items in
     let reports_are : map unit_report items ≡ e.units = c.in_ok-reports.ensures.reports base stands ∙ ap (λ us. (run_units base.library (map unit us) base.state).units) c.deref.ensures.value in

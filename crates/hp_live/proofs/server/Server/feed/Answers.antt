@@ -5,7 +5,8 @@ use Rattle.hp_live.proofs.server.Server.feed.Goals as goal
 
 pub loop-byte-preserved : goal.loop-byte-preserved
 loop-byte-preserved g c =
-    fed_byte _ _ _ _ _ _ _ _ c.args.piece.now c.loop-byte.byte-index c.loop-byte.invariant c.in_ok-feed_byte.ensures.output c.in_ok-feed_byte.ensures.next c.in_ok-feed_byte.ensures.whole c.loop-byte-test.true
+    fed_byte _ _ _ _ _ _ _ _ c.args.piece.now c.loop-byte.byte-index c.loop-byte.invariant c.in_ok-feed_byte.ensures.output c.in_ok-feed_byte.ensures.next
+    c.in_ok-feed_byte.ensures.whole c.loop-byte-test.true
 
 pub returns-in_err-feed_byte-clause-begins : goal.returns-in_err-feed_byte-clause-begins
 returns-in_err-feed_byte-clause-begins g c d is =

@@ -21,7 +21,8 @@ returns-then-is_empty g c =
 pub loop-preserved : goal.loop-preserved
 loop-preserved g c =
     let some = is_something c.loop.next.items (vec_len c.loop.next) c.loop.next.ok.0 (sym c.is_empty.ensures ∙ c.if-is_empty.false) in
-    let ran = subst (λ ts. RunsGeneration (library c.args.self.now.engine.lib.now) (map task ts) c.loop.view c.run_generation.new.view (generation_of c.in_ok-generation.generation)) c.deref.ensures.value c.in_ok-generation.ensures in
+    let ran = subst (λ ts. RunsGeneration (library c.args.self.now.engine.lib.now) (map task ts) c.loop.view c.run_generation.new.view (generation_of c.in_ok-generation.generation))
+    c.deref.ensures.value c.in_ok-generation.ensures in
     cascade_ran c.loop.next.items c.in_ok-next.next.items c.loop.reports.items c.append.new.self.items c.in_ok-generation.generation some (omega (arith, c.most_rounds-most.ensures))
     (search rules) c.in_ok-next.ensures c.loop.invariant ran
 

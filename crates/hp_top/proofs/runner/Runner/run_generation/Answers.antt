@@ -17,4 +17,5 @@ loop-task-preserved g c =
 pub returns : goal.returns
 returns g c =
     let now : GenerationAnswer = record { transactions = map top_report c.loop-task.tops.items; detached = map detached c.loop-task.detached.items } in
-    generation_all (subst (λ ts. GenerationLeft (library c.args.self.now.engine.lib.now) (map task c.args.tasks.now) (map task ts) c.args.view.now c.loop-task.view now) (drop_all c.loop-task.task-index c.args.tasks.now c.loop-task-test.false) c.loop-task.invariant)
+    generation_all (subst (λ ts. GenerationLeft (library c.args.self.now.engine.lib.now) (map task c.args.tasks.now) (map task ts) c.args.view.now c.loop-task.view now)
+    (drop_all c.loop-task.task-index c.args.tasks.now c.loop-task-test.false) c.loop-task.invariant)

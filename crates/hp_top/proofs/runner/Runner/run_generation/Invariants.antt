@@ -7,4 +7,5 @@ use Rattle.hp_top.proofs.runner.Runner.run_generation.Given as goal
 -- some tasks have run
 abbrev pub invariant-loop-task : goal.invariant-loop-task
 invariant-loop-task g l =
-    GenerationLeft (library l.self.engine.lib.now) (map task l.tasks) (map task (drop l.task-index l.tasks)) l.fn.view l.view (record { transactions = map top_report l.tops.items; detached = map detached l.detached.items })
+    GenerationLeft (library l.self.engine.lib.now) (map task l.tasks) (map task (drop l.task-index l.tasks)) l.fn.view l.view
+    (record { transactions = map top_report l.tops.items; detached = map detached l.detached.items })

@@ -7,4 +7,5 @@ use Rattle.hp_top.proofs.runner.Runner.run_rounds.Given as goal
 
 -- the first rounds are done
 abbrev pub invariant-loop : goal.invariant-loop
-invariant-loop g l = RoundsLeft (library l.self.engine.lib.now) (most_rounds (library l.self.engine.lib.now)) (most_rounds (library l.self.engine.lib.now) - l.counter) l.fn.view l.view (course l.fn.begun) (course l.course)
+invariant-loop g l = RoundsLeft (library l.self.engine.lib.now) (most_rounds (library l.self.engine.lib.now)) (most_rounds (library l.self.engine.lib.now) - l.counter)
+    l.fn.view l.view (course l.fn.begun) (course l.course)

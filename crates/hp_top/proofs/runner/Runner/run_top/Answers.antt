@@ -14,7 +14,8 @@ returns-in_ok-top-in-Transaction g c =
     let L = library c.args.self.now.engine.lib.now in
     let b = body c.in-Transaction.body in
     let t = c.in-Transaction.time in
-    let ran = subst (λ b. Runs L (run_body b (level_at L t 0) (no_context t)) c.args.view.now c.run_body.new.view (course c.in_ok-course-in-Transaction.course)) c.statements.ensures c.in_ok-course-in-Transaction.ensures in
+    let ran = subst (λ b. Runs L (run_body b (level_at L t 0) (no_context t)) c.args.view.now c.run_body.new.view (course c.in_ok-course-in-Transaction.course))
+    c.statements.ensures c.in_ok-course-in-Transaction.ensures in
     subst (λ u. RunsTop L (top L (now_in (unit u)) 0 (unit_work L (unit u))) c.args.view.now c.finish.new.view (top_of c.in_ok-top-in-Transaction.top)) (sym c.in-Transaction.is)
     (c.in_ok-top-in-Transaction.ensures.runs c.args.view.now (run_body b (level_at L t 0) (no_context t)) (sym c.enter-mark.ensures) ran)
 

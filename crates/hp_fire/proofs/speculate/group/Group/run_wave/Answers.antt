@@ -14,5 +14,6 @@ returns g c =
     let sound = c.put_returned.ensures lib came.sound c.try_all-found.ensures.found_sound in
     let put : Progress = record c.try_all-found.new.progress { pending = c.put_returned.new.self } in
     IfOk-weaker c.accept_sent.result _ _ (λ _ comes.
-    comes_then c.args.progress.now tried c.accept_sent.new.self came (comes_then tried put c.accept_sent.new.self (comes_put c.try_all-found.new.view tried put refl sound) (comes lib c.try_all-found.ensures.channels_are sound)))
+    comes_then c.args.progress.now tried c.accept_sent.new.self came (comes_then tried put c.accept_sent.new.self (comes_put c.try_all-found.new.view tried put refl sound)
+    (comes lib c.try_all-found.ensures.channels_are sound)))
     c.accept_sent.ensures.comes

@@ -30,6 +30,7 @@ returns g c =
     IfOk-weaker c.run_wave.result _ _ (λ _ ran.
     let came : Comes lib c.args.self.now.stop_at_veto (map task c.args.self.now.tasks.now) c.share_beneath.new.view c.begin_wave.new.self c.run_wave.new.view c.run_wave.new.progress =
     subst (λ (b : Bool). Comes lib b (map task c.args.self.now.tasks.now) c.share_beneath.new.view c.begin_wave.new.self c.run_wave.new.view c.run_wave.new.progress) c.in-Ok.ensures.wave.2
-    (subst (λ (ts : List RustTask). Comes lib c.in-Ok.start.wave.stop_at_veto (map task ts) c.share_beneath.new.view c.begin_wave.new.self c.run_wave.new.view c.run_wave.new.progress) c.in-Ok.ensures.wave.1 ran) in
+    (subst (λ (ts : List RustTask). Comes lib c.in-Ok.start.wave.stop_at_veto (map task ts) c.share_beneath.new.view c.begin_wave.new.self c.run_wave.new.view c.run_wave.new.progress)
+    c.in-Ok.ensures.wave.1 ran) in
     wave_ran c.args.progress.now begun c.run_wave.new.progress c.in_ok-share_beneath.ensures (ap (λ (p : Progress). p.settled) same)
     (ap (λ (x : Counts). x.accepted) counts, ap (λ (x : Counts). x.waves) counts) c.begin_wave.ensures.retried c.requires.going.0 c.requires.counted came) c.run_wave.ensures

@@ -16,6 +16,7 @@ loop-worker-preserved c =
     let here : c.loop-worker.worker < length c.loop-worker.receivers.items = search rules in
     let at = λ (library : Library) (all : AreOf library c.loop-worker.receivers.items). subst (P library) (sym c.index_mut.ensures.value) (all c.loop-worker.worker c.index_mut.result.now here) in (
       c.loop-worker.invariant.0,
-      (λ library all. let is = c.loop-worker.invariant.1 library all in All-set (P library) c.loop-worker.receivers.items c.loop-worker.worker c.receive_from.new.receiver (c.receive_from.ensures.channel library (at library is)) is),
+      (λ library all. let is = c.loop-worker.invariant.1 library all in All-set (P library) c.loop-worker.receivers.items c.loop-worker.worker
+          c.receive_from.new.receiver (c.receive_from.ensures.channel library (at library is)) is),
       λ library all sound. c.receive_from.ensures.sound library (at library (c.loop-worker.invariant.1 library all)) (c.loop-worker.invariant.2 library all sound),
     )

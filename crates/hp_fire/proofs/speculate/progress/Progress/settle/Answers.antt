@@ -19,9 +19,11 @@ pub returns-clause-ahead : goal.returns-clause-ahead
 returns-clause-ahead c =
     let done : c.len-done.result ≡ length c.args.self.now.settled.outcomes.items = search rules in
     let count : c.len-count.result ≡ length c.in_ok-front.front.items = search rules in
-    let long = ap length c.in_ok-add_front.ensures.outcomes ∙ length-append c.args.self.now.settled.outcomes.items c.in_ok-front.front.items ∙ ap (λ n. length c.args.self.now.settled.outcomes.items + n) (sym count) in
+    let long = ap length c.in_ok-add_front.ensures.outcomes ∙ length-append c.args.self.now.settled.outcomes.items c.in_ok-front.front.items
+    ∙ ap (λ n. length c.args.self.now.settled.outcomes.items + n) (sym count) in
     ahead_settled c.args.self.now _ c.len-count.result long
-    (λ none. unmapped_none veto c.add_front.new.self.end (c.in_ok-add_front.ensures.end ∙ stopped_by_none c.args.stop_at_veto c.in_ok-front.front.items (sym count ∙ none))) c.add_kept.ensures.same c.add_kept.ensures.accepted
+    (λ none. unmapped_none veto c.add_front.new.self.end (c.in_ok-add_front.ensures.end ∙ stopped_by_none c.args.stop_at_veto c.in_ok-front.front.items (sym count ∙ none)))
+    c.add_kept.ensures.same c.add_kept.ensures.accepted
     (λ some is. c.add_kept.ensures.retried some (subst (IsRetried c.args.self.now.counts) (sym done) is))
 
 pub returns-clause-comes : goal.returns-clause-comes
@@ -31,8 +33,11 @@ returns-clause-comes c = λ library sound.
     let done : c.len-done.result ≡ length c.args.self.now.settled.outcomes.items = search rules in
     let left = ap (map task) c.left_of-left.ensures ∙ sym (drop-map task c.len-done.result c.args.tasks.now) ∙ ap (λ n. drop n (map task c.args.tasks.now)) done in record {
       ahead = returns-clause-ahead c;
-      sound = subst (AreSound library) (sym (c.in_ok-front.ensures.left ∙ ap (λ a. drop n a.items) c.replace-attempts.ensures.value)) (sound_drop library n c.args.self.now.pending.attempts.items sound);
+      sound = subst (AreSound library) (sym (c.in_ok-front.ensures.left ∙ ap (λ a. drop n a.items) c.replace-attempts.ensures.value))
+          (sound_drop library n c.args.self.now.pending.attempts.items sound);
       so_far = λ first so_far.
-          so_far_settled c.args.self.now.settled.outcomes.items c.in_ok-front.front.items c.add_front.new.self.outcomes.items (option_map veto c.args.self.now.settled.end) (option_map veto c.add_front.new.self.end) (map task c.left_of-left.result.now) c.replace-attempts.result.items (ap (option_map veto) none) left
-          c.in_ok-add_front.ensures.outcomes c.in_ok-add_front.ensures.end so_far c.in_ok-front.ensures.goes_on c.in_ok-front.ensures.front (subst (λ a. AreSound library a.items) (sym c.replace-attempts.ensures.value) sound);
+          so_far_settled c.args.self.now.settled.outcomes.items c.in_ok-front.front.items c.add_front.new.self.outcomes.items (option_map veto c.args.self.now.settled.end)
+          (option_map veto c.add_front.new.self.end) (map task c.left_of-left.result.now) c.replace-attempts.result.items (ap (option_map veto) none) left
+          c.in_ok-add_front.ensures.outcomes c.in_ok-add_front.ensures.end so_far c.in_ok-front.ensures.goes_on c.in_ok-front.ensures.front
+          (subst (λ a. AreSound library a.items) (sym c.replace-attempts.ensures.value) sound);
     }

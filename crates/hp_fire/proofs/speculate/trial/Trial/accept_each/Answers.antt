@@ -14,7 +14,8 @@ returns-clause-channels g c = c.accept_sent-2.ensures.channels (library c.args.s
 pub returns-clause-comes : goal.returns-clause-comes
 returns-clause-comes g c =
     let so_far = c.loop.invariant in
-    IfOk-weaker c.accept_sent-2.result _ _ (λ _ comes. comes_then c.args.progress.now c.loop.progress c.accept_sent-2.new.self so_far.0 (comes (library c.args.self.now.lib.now) so_far.1 so_far.0.sound)) c.accept_sent-2.ensures.comes
+    IfOk-weaker c.accept_sent-2.result _ _ (λ _ comes. comes_then c.args.progress.now c.loop.progress c.accept_sent-2.new.self so_far.0
+    (comes (library c.args.self.now.lib.now) so_far.1 so_far.0.sound)) c.accept_sent-2.ensures.comes
 
 pub loop-preserved : goal.loop-preserved
 loop-preserved g c =
@@ -23,7 +24,8 @@ loop-preserved g c =
     let sound = c.put.ensures lib so_far.0.sound c.in-Some.ensures.sound in
     let put : Progress = record c.loop.progress { pending = c.put.new.self } in
     let accepted = c.in_ok-accept_sent.ensures.comes lib so_far.1 sound in (
-      comes_then c.args.progress.now c.loop.progress c.accept_sent.new.self so_far.0 (comes_then c.loop.progress put c.accept_sent.new.self (comes_put c.loop.view c.loop.progress put refl sound) accepted),
+      comes_then c.args.progress.now c.loop.progress c.accept_sent.new.self so_far.0
+          (comes_then c.loop.progress put c.accept_sent.new.self (comes_put c.loop.view c.loop.progress put refl sound) accepted),
       c.accept_sent.ensures.channels lib so_far.1,
       c.note_veto.ensures.worker,
       c.note_veto.ensures.wave ∙ c.next_attempt.ensures.wave ∙ so_far.3,

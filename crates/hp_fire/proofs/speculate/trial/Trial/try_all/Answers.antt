@@ -23,7 +23,8 @@ on_threads-requires-send-H g c = λ κs within.
     let r : IsSync g.row.R = search rules in
     let s : IsSync g.row.G = search rules in
     let t : IsSync g.row.F = search rules in
-    let trial : (κ : NamedLft) → IsSync (Trial.the_row κ (param 0 g.row.R) (param 1 g.row.G) (param 2 g.row.F)) = λ κ. trial_sync κ (param 0 g.row.R) (param 1 g.row.G) (param 2 g.row.F) (param_sync 0 g.row.R r) (param_sync 1 g.row.G s) (param_sync 2 g.row.F t) in
+    let trial : (κ : NamedLft) → IsSync (Trial.the_row κ (param 0 g.row.R) (param 1 g.row.G) (param 2 g.row.F)) =
+    λ κ. trial_sync κ (param 0 g.row.R) (param 1 g.row.G) (param 2 g.row.F) (param_sync 0 g.row.R r) (param_sync 1 g.row.G s) (param_sync 2 g.row.F t) in
     search (trial, wave_sync, view_send, progress_send, seat.the_send, sent_send, receiver.the_send, heap.crosses, heap.send, heap.sync, sendable) depth 30 fits 20000
 
 pub on_threads-requires-sync-F : goal.on_threads-requires-sync-F
@@ -31,5 +32,6 @@ on_threads-requires-sync-F g c = λ κs within.
     let r : IsSync g.row.R = search rules in
     let s : IsSync g.row.G = search rules in
     let t : IsSync g.row.F = search rules in
-    let trial : (κ : NamedLft) → IsSync (Trial.the_row κ (param 0 g.row.R) (param 1 g.row.G) (param 2 g.row.F)) = λ κ. trial_sync κ (param 0 g.row.R) (param 1 g.row.G) (param 2 g.row.F) (param_sync 0 g.row.R r) (param_sync 1 g.row.G s) (param_sync 2 g.row.F t) in
+    let trial : (κ : NamedLft) → IsSync (Trial.the_row κ (param 0 g.row.R) (param 1 g.row.G) (param 2 g.row.F)) =
+    λ κ. trial_sync κ (param 0 g.row.R) (param 1 g.row.G) (param 2 g.row.F) (param_sync 0 g.row.R r) (param_sync 1 g.row.G s) (param_sync 2 g.row.F t) in
     search (trial, wave_sync, heap.crosses, heap.send, heap.sync, sendable) depth 30 fits 20000
