@@ -417,6 +417,17 @@ fn many_wait_and_are_taken_in_order(rt: HostRuntime) -> Result<(), Fail> {
     Ok(())
 }
 
+/// However many wait, no call nests deeper than the logarithm of their number.
+#[test]
+fn a_million_wait(rt: HostRuntime) -> Result<(), Fail> {
+    let expr = event(rt.alloc(), "a b ;")?;
+    let none = Knowledge::fresh(rt.alloc(), &expr)?;
+    let known = waiting(rt.alloc(), &expr, &none, 0, 1_000_000)?;
+    let (_, in_order) = taken(rt.alloc(), &expr, &known, 0, 3)?;
+    assert!(rt; in_order);
+    Ok(())
+}
+
 /// More wait than the known ones: those from a first argument on.
 fn compare_longer(
     rt: &impl Abort,
