@@ -3,7 +3,8 @@ use Rattle.std.proofs.Common.{◌≡◌, ◌≢◌, refl, List, [], ◌∷◌, l
 use Rattle.std.specs.declared.alloc.Global.{Global}
 use Rattle.hipac_text.specs.Ends.{task_named, task_for}
 
-pub task_of_two : (words : List (String Global)) (word : String Global) → length words ≡ 2 → word ≡ get_or words 1 word → task_for (map string_bytes words) ≡ task_named (string_bytes word)
+pub task_of_two : (words : List (String Global)) (word : String Global) → length words ≡ 2
+    → word ≡ get_or words 1 word → task_for (map string_bytes words) ≡ task_named (string_bytes word)
 task_of_two [] word two is = cc
 task_of_two (a ∷ []) word two is = cc
 task_of_two (a ∷ b ∷ []) word two is = cc

@@ -1,5 +1,6 @@
 -- The words of the command line, and how the program ends.
-use Rattle.std.specs.Prelude.{◌≡◌, ℕ, nat_lt, List, [], ◌∷◌, length, codes, Option, Some, None, is_some, option_and_then, bytes_eq, Result, Ok, Err, Bool, true, false, if◌then◌else◌}
+use Rattle.std.specs.Prelude.{◌≡◌, ℕ, nat_lt, Bool, true, false, if◌then◌else◌, List, [], ◌∷◌, length, codes, bytes_eq}
+use Rattle.std.specs.Prelude.{Option, Some, None, is_some, option_and_then, Result, Ok, Err}
 use Rattle.hp_model.specs.Report.{Bytes}
 use Rattle.hp_model.specs.Json.{json_of}
 use Rattle.hp_model.specs.NotationPlaces.{read_text}
@@ -12,7 +13,8 @@ use Rattle.hipac_text.specs.declared.words.WordFault.{WordFault}
 use Rattle.hipac_text.specs.declared.words.WordFault.TheVariants as w
 
 abbrev pub task_named : Bytes → Option Task
-task_named word = if bytes_eq word (codes "read") then Some Read else (if bytes_eq word (codes "print") then Some Print else None)
+task_named word =
+    if bytes_eq word (codes "read") then Some Read else (if bytes_eq word (codes "print") then Some Print else None)
 
 -- the task of a command line, whose first word is the program's name
 abbrev pub task_for : List Bytes → Option Task

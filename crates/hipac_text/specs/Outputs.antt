@@ -28,8 +28,9 @@ depth_text (Some n) = member_text (codes ",\"depth\":") n
 -- the members in the order of the grammar, on one line
 abbrev pub json_text : T.Script → Bytes
 json_text s =
-    member_text (codes "{\"version\":") s.version ++ (depth_text s.depth ++ (member_text (codes ",\"classes\":") s.classes
-    ++ (member_text (codes ",\"rules\":") s.rules ++ (member_text (codes ",\"items\":") s.items ++ codes "}\n"))))
+    member_text (codes "{\"version\":") s.version ++ (depth_text s.depth
+    ++ (member_text (codes ",\"classes\":") s.classes ++ (member_text (codes ",\"rules\":") s.rules
+    ++ (member_text (codes ",\"items\":") s.items ++ codes "}\n"))))
 
 abbrev pub read_answer : Result T.Script Place → Bytes
 read_answer (Ok s) = json_text s

@@ -5,4 +5,7 @@ use Rattle.hipac_text.proofs.Written.{compact_of}
 use Rattle.hipac_text.proofs.members.value_text.Goals as goal
 
 pub returns : goal.returns
-returns c = IfOk-weaker c.to_string.result _ _ (λ text written. compact_of (node_view c.args.node) _ (string_bytes text) c.in_ok-value.ensures written) c.to_string.ensures.text
+returns c =
+    let node = node_view c.args.node in
+    IfOk-weaker c.to_string.result _ _ (λ text h. compact_of node _ (string_bytes text) c.in_ok-value.ensures h)
+    c.to_string.ensures.text
