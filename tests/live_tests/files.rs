@@ -1,7 +1,6 @@
 //! Runs whose script is in a file.
 
 use super::fixtures::{ANSWERS, EASY, SCRIPT, Steps, bytes_until, later_lines, new_device};
-use hp_fire::ByThreads;
 use hp_live::{Fault, Options, Status, run};
 use hp_report::Watched;
 use std::process::Abort;
@@ -43,9 +42,8 @@ fn answered<R: AllocGlobal + Threads + Sync>(
     script.extend_from_slice(file)?;
     let mut reader = Watched::new(new_device(alloc, input, EASY));
     let mut writer = Watched::new(new_device(alloc, b"", writes));
-    let threads = ByThreads::new(rt);
     let ended = run(
-        &threads,
+        rt,
         alloc,
         Some(script),
         &mut reader,

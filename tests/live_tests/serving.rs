@@ -3,7 +3,6 @@
 use super::fixtures::{
     ANSWERS, EASY, FOURTH_ANSWERS, Steps, bytes_until, fourth_session, new_device, session,
 };
-use hp_fire::ByThreads;
 use hp_live::{Fault, Options, Status, run};
 use hp_report::Watched;
 use std::process::Abort;
@@ -25,8 +24,7 @@ fn served<R: AllocGlobal + Threads + Sync>(
         tree: false,
         text: false,
     };
-    let threads = ByThreads::new(rt);
-    let ended = run(&threads, alloc, None, &mut reader, &mut writer, options);
+    let ended = run(rt, alloc, None, &mut reader, &mut writer, options);
     (writer.into_inner().output, ended)
 }
 

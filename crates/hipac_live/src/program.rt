@@ -11,7 +11,6 @@ ghost use Rattle.hp_live.specs.Kept.{manner, bytes_of};
 ghost use Rattle.hipac_live.specs.Asked.{code_unasked, manner_of};
 
 use super::asked::{Asked, Unasked, unasked_code};
-use hp_fire::ByThreads;
 use hp_live::{Fault, Options, exit_code, run};
 use hp_report::{Sink, Source};
 use std::alloc::Global;
@@ -80,9 +79,8 @@ pub fn program<T: Threads + Sync, R: Source, W: Sink>(
 {
     match asked {
         Ok(asked) => {
-            let threads = ByThreads::new(rt);
             let options = options_for(asked.options);
-            let ended = run(&threads, alloc, asked.script, reader, writer, options);
+            let ended = run(rt, alloc, asked.script, reader, writer, options);
             Ended {
                 code: exit_code(&ended),
                 stop: ended.err().map(Stop::Run),

@@ -10,24 +10,24 @@ ghost use Rattle.hp_live.specs.Ends.{status_at, status_of};
 
 use crate::options::Options;
 use crate::server::Server;
-use hp_fire::Workers;
+use hp_fire::ByThreads;
 use hp_report::{Fault, Sink, Source, Status};
 use std::alloc::Global;
+use std::thread::Threads;
 
 /// Answers the script's file, if there is one, and then the lines of the reader up to its end. It ends early if the
 /// script is refused.
 ///
 /// The reader and the writer must not have failed before. After a fault what was written is a prefix of the answers;
 /// `serve` says which answers are whole. No call of a device is repeated.
-pub fn run<T: Workers, R: Source, W: Sink>(
-    workers: &T,
+pub fn run<T: Threads + Sync, R: Source, W: Sink>(
+    rt: &T,
     alloc: Global,
     script: Option<Vec<u8>>,
     reader: &mut R,
     writer: &mut W,
     options: Options,
 ) -> Result<Status, Fault>
-    requires ready { T.ready workers.now }
     requires reader { R.has_failed reader.old ≡ false }
     requires writer { W.has_failed writer.old ≡ false }
 
@@ -48,8 +48,9 @@ pub fn run<T: Workers, R: Source, W: Sink>(
     ensures read { result ≡ Err Fault.Read ↔ (R.has_failed reader.new ≡ true) }
     ensures write { result ≡ Err Fault.Write ↔ (W.has_failed writer.new ≡ true) }
 {
-    let server = Server::open(workers, alloc, script, writer, options)?;
-    let status = serve(workers, alloc, server, reader, writer)?;
+    let workers = ByThreads::new(rt);
+    let server = Server::open(&workers, alloc, script, writer, options)?;
+    let status = serve(rt, alloc, server, reader, writer)?;
     Ok(status)
 }
 
@@ -59,14 +60,13 @@ pub fn run<T: Workers, R: Source, W: Sink>(
 /// The reader and the writer must not have failed before. After a fault what was written is a prefix of the answers,
 /// with all those to the lines that were complete before the last read; after `Fault::Read` it is all answers to what
 /// was read, and after `Fault::NoMemory` it is whole answers. No call of a device is repeated.
-pub fn serve<T: Workers, R: Source, W: Sink>(
-    workers: &T,
+pub fn serve<T: Threads + Sync, R: Source, W: Sink>(
+    rt: &T,
     alloc: Global,
     server: Server,
     reader: &mut R,
     writer: &mut W,
 ) -> Result<Status, Fault>
-    requires ready { T.ready workers.now }
     requires reader { R.has_failed reader.old ≡ false }
     requires writer { W.has_failed writer.old ≡ false }
 
@@ -102,6 +102,7 @@ pub fn serve<T: Workers, R: Source, W: Sink>(
     ensures read { result ≡ Err Fault.Read ↔ (R.has_failed reader.new ≡ true) }
     ensures write { result ≡ Err Fault.Write ↔ (W.has_failed writer.new ≡ true) }
 {
+    let workers = ByThreads::new(rt);
     let mut server = server;
     let mut buf = [0u8; 4096];
     for _ in 0..u64::MAX {
@@ -109,11 +110,11 @@ pub fn serve<T: Workers, R: Source, W: Sink>(
             return Ok(Status::Refused);
         }
         if reader.ended() {
-            let status = server.finish(workers, alloc, writer)?;
+            let status = server.finish(&workers, alloc, writer)?;
             return Ok(status);
         }
         match reader.read(&mut buf) {
-            Ok(count) => server = server.feed(workers, alloc, writer, &buf[..count])?,
+            Ok(count) => server = server.feed(&workers, alloc, writer, &buf[..count])?,
             Err(_) => return Err(Fault::Read),
         }
     }
