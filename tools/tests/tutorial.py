@@ -67,7 +67,7 @@ def printed(command: str) -> str:
     if words[0] == "./hipac" and words[-2] == "<":
         return program.run((REPOSITORY / words[-1]).read_bytes(), words[1:-2]).output
     if words[0] == "./hipac-check" and words[-2] == "<":
-        return program.run((REPOSITORY / words[-1]).read_bytes(), [], proved.program_path()).output
+        return program.run((REPOSITORY / words[-1]).read_bytes(), words[1:-2], proved.program_path()).output
     if words[0] == "./hipac-tools":
         ended = subprocess.run(words, cwd=REPOSITORY, stdin=subprocess.DEVNULL, stdout=subprocess.PIPE, check=False)
         return ended.stdout.decode("utf-8")
