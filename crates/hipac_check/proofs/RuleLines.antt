@@ -18,7 +18,8 @@ rule_is w n name = simp (append_assoc, append-nil)
 parts : (w front number part name : Bytes) → w ++ (front ++ (number ++ 47 ∷ (part ++ 32 ∷ (name ++ 10 ∷ [])))) ≡ (w ++ (front ++ ((number ++ 47 ∷ (part ++ [])) ++ 32 ∷ name))) ++ 10 ∷ []
 parts w front number part name = simp (append_assoc, append-nil)
 
-pub part_is : (w : Bytes) (n p : ℕ) (name : Bytes) → w ++ (codes " /rules/" ++ (decimal n ++ 47 ∷ (decimal p ++ 32 ∷ (name ++ 10 ∷ [])))) ≡ line 0 (w ∷ path_text (to_member (codes "rules") ∷ to_item n ∷ to_item p ∷ []) ∷ name ∷ [])
+pub part_is : (w : Bytes) (n p : ℕ) (name : Bytes) → w ++ (codes " /rules/" ++ (decimal n ++ 47 ∷ (decimal p ++ 32 ∷ (name ++ 10 ∷ [])))) ≡ line 0
+    (w ∷ path_text (to_member (codes "rules") ∷ to_item n ∷ to_item p ∷ []) ∷ name ∷ [])
 part_is w n p name = parts w (codes " /rules/") (decimal n) (decimal p) name
 
 -- a guard with an opening
@@ -41,7 +42,8 @@ idle_is present reached n r = by (has present n) (has reached n)
     by true false = refl
     by false b = refl
 
-pub idle_told : (present reached : List Bool) (n : ℕ) (r : Rule) (w : Bytes) → Some w ≡ idle_word present reached n → w ++ (codes " /rules/" ++ (decimal n ++ 32 ∷ (r.name ++ 10 ∷ []))) ≡ idle_line present reached n r
+pub idle_told : (present reached : List Bool) (n : ℕ) (r : Rule) (w : Bytes) → Some w ≡ idle_word present reached n
+    → w ++ (codes " /rules/" ++ (decimal n ++ 32 ∷ (r.name ++ 10 ∷ []))) ≡ idle_line present reached n r
 idle_told present reached n r w is = rule_is w n r.name ∙ ap (word_line n r) is ∙ idle_is present reached n r
 
 pub idle_silent : (present reached : List Bool) (n : ℕ) (r : Rule) → None ≡ idle_word present reached n → [] ≡ idle_line present reached n r

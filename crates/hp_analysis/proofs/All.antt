@@ -17,9 +17,11 @@ some_found unit fs later x y e f =
 units_judged : (library : Library) (d : Declared) (n : ℕ) (us : List Unit) → finds_nothing (units_findings library d n us) ≡ list_all (unit_kinded library d) us
 units_judged library d n [] = refl
 units_judged library d n (u ∷ us) =
-    some_found (Some n) (unit_findings library d u) (units_findings library d (suc n) us) (unit_kinded library d u) (list_all (unit_kinded library d) us) (unit_judged library d u) (units_judged library d (suc n) us)
+    some_found (Some n) (unit_findings library d u) (units_findings library d (suc n) us) (unit_kinded library d u) (list_all (unit_kinded library d) us)
+    (unit_judged library d u) (units_judged library d (suc n) us)
 
 -- there are none exactly if the script is kinded
 pub script_judged : (library : Library) (d : Declared) (us : List Unit) → finds_nothing (kind_findings library d us) ≡ script_kinded library d us
 script_judged library d us =
-    some_found None (library_findings library d) (units_findings library d 1 us) (library_kinded library d) (list_all (unit_kinded library d) us) (library_judged library d) (units_judged library d 1 us)
+    some_found None (library_findings library d) (units_findings library d 1 us) (library_kinded library d) (list_all (unit_kinded library d) us)
+    (library_judged library d) (units_judged library d 1 us)

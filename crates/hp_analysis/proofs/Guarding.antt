@@ -4,7 +4,8 @@ use Rattle.std.specs.Prelude.{is_none, option_map, if◌then◌else◌}
 use Rattle.std.specs.List.{AllByRecursion}
 use Rattle.hp_model.specs.Values.{Cause}
 use Rattle.hp_model.specs.Rules.{Rule, Library, rule_at}
-use Rattle.hp_model.specs.Tree.{Ending, committed, aborted, Condition, without_action, with_fault, with_action, with_later_action, Node, sub_node, fire_node, act_node, Items, no_items, operation, emission, detachment, node}
+use Rattle.hp_model.specs.Tree.{Ending, committed, aborted, Condition, without_action, with_fault, with_action, with_later_action, Node, sub_node, fire_node, act_node, Items}
+use Rattle.hp_model.specs.Tree.{no_items, operation, emission, detachment, node}
 use Rattle.hp_model.specs.Cascade.{TransactionReport, UnitReport}
 use Rattle.hp_model.specs.Endings.{Ended, whole_transaction, inner_node, condition_of, EndsOnlyBy, FaultsOnlyBy, NodeHasOnly, TreeHasOnly, ReportHasOnly}
 use Rattle.hp_model.specs.Kinds.{is_body_calm, is_condition_calm, is_node_calm, is_arithmetic, NotOfKinds, CauseOf, KindedCause}

@@ -25,8 +25,12 @@ installed_suffice s =
     let library = s.library in
     let set = installed library s.units in
     let h = spread_closed library (map (installs library) library.rules) unit_installs s.units in
-    let all : (list_all (λ u. list_all (has set) (unit_installs u)) s.units && is_within set (no_rules library)) ≡ true = sym (gathered_each library set h.1.0 unit_installs s.units (no_rules library) h.1.0) ∙ h.1.1 in
-    (all_closed library set h.1.0 (λ r. body_installs r.action) refl h.0, each_passes (λ u. list_all (has set) (unit_installs u)) s.units (and_parts (list_all (λ u. list_all (has set) (unit_installs u)) s.units) (is_within set (no_rules library)) all).0)
+    let all : (list_all (λ u. list_all (has set) (unit_installs u)) s.units && is_within set (no_rules library)) ≡ true =
+    sym (gathered_each library set h.1.0 unit_installs s.units (no_rules library) h.1.0) ∙ h.1.1 in (
+      all_closed library set h.1.0 (λ r. body_installs r.action) refl h.0,
+      each_passes (λ u. list_all (has set) (unit_installs u)) s.units
+          (and_parts (list_all (λ u. list_all (has set) (unit_installs u)) s.units) (is_within set (no_rules library)) all).0,
+    )
 
 pub others_do_nothing : OthersDoNothing
 others_do_nothing s = others_are_idle s (has (installed s.library s.units)) (installed_suffice s)
@@ -50,7 +54,8 @@ found_passes test j (suc more) k h = by (test j) refl h (λ e. found_passes test
     later : IsFound test (suc j + more) k → IsFound test (j + suc more) k
     later f = let low = f.low in record { more = f.more; low = omega (arith, low); passes = f.passes }
 
-    by : (b : Bool) → test j ≡ b → (if b then Some j else least_from test (suc j) more) ≡ Some k → (least_from test (suc j) more ≡ Some k → IsFound test (suc j + more) k) → IsFound test (j + suc more) k
+    by : (b : Bool) → test j ≡ b → (if b then Some j else least_from test (suc j) more) ≡ Some k → (least_from test (suc j) more ≡ Some k → IsFound test (suc j + more) k)
+        → IsFound test (j + suc more) k
     by true is e next = let same : j ≡ k = cc in record { more = suc more; low = omega (arith, same); passes = subst (λ i. test i ≡ true) same is }
     by false is e next = later (next e)
 
@@ -60,7 +65,8 @@ module _ (library : Library) where
   list_grows k [] h = refl
   list_grows k (n ∷ ns) h =
       let parts = and_parts (rule_within library k (rule_at library n)) (list_all (λ m. rule_within library k (rule_at library m)) ns) h in
-      and_from (rule_within library (suc k) (rule_at library n)) (list_all (λ m. rule_within library (suc k) (rule_at library m)) ns) (bounds_grow library k (rule_at library n) parts.0) (list_grows k ns parts.1)
+      and_from (rule_within library (suc k) (rule_at library n)) (list_all (λ m. rule_within library (suc k) (rule_at library m)) ns)
+      (bounds_grow library k (rule_at library n) parts.0) (list_grows k ns parts.1)
 
   units_grow : (k : ℕ) (us : List Unit) → list_all (unit_within library k) us ≡ true → list_all (unit_within library (suc k)) us ≡ true
   units_grow k [] h = refl

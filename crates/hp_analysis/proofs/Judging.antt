@@ -5,16 +5,26 @@ use Rattle.std.specs.Bool.{then_some}
 use Rattle.std.specs.Map.{lookup}
 use Rattle.hp_model.specs.Values.{Name, Kind, integer_kind, boolean_kind, text_kind, is_kind, Field, ◌>>=◌}
 use Rattle.hp_model.specs.Events.{Pattern, on_create, on_update, on_delete, on_signal, at_moment, every_moment}
-use Rattle.hp_model.specs.Expressions.{Comparison, equal, unequal, less, at_most, greater, at_least, Expression, constant, arithmetic, negated, inverted, both, either, compared, field_of, key_of, new_field, old_field, key_in, argument, time_of, occurrence_count, value_named, time_now}
+use Rattle.hp_model.specs.Expressions.{Comparison, equal, unequal, less, at_most, greater, at_least, Expression, constant, arithmetic, negated, inverted, both, either, compared}
+use Rattle.hp_model.specs.Expressions.{field_of, key_of, new_field, old_field, key_in, argument, time_of, occurrence_count, value_named, time_now}
 use Rattle.hp_model.specs.Rules.{Query, Aggregate, count_over, sum_over, least_over, greatest_over, next_key, single, Entry, query_entry, no_entry, let_entry}
-use Rattle.hp_model.specs.Rules.{Assignment, Statement, create, update, delete, signal, emit, when, each, for_answer, with_object, subtransaction, let_value, abort, veto, veto_with, on_rule, fire, Body, empty, ◌then◌, Rule, Library, class_at}
+use Rattle.hp_model.specs.Rules.{Assignment, Statement, create, update, delete, signal, emit, when, each, for_answer, with_object, subtransaction, let_value, abort, veto}
+use Rattle.hp_model.specs.Rules.{veto_with, on_rule, fire, Body, empty, ◌then◌, Rule, Library, class_at}
 use Rattle.hp_model.specs.Firing.{kind_in}
 use Rattle.hp_model.specs.Cascade.{Unit, transaction, moment}
 use Rattle.hp_model.specs.Refusals.{Path, under_root, item_at}
 use Rattle.hp_model.specs.Kinds as K
-use Rattle.hp_model.specs.Kinds.{Sort, only, any, Declared, signature_of, is_fired, Columns, columns_by, Scope, with_name, with_sort, no_scope, is_only, meets, meet, only_if, common, all_assigned, assignments_kinded, arguments_kinded, statement_kinded, body_kinded, aggregate_sort, if_sorted, entries_kinded, with_entries, query_classes, rules_kinded, library_kinded, unit_kinded, is_given, gives_sort, sort_of}
+use Rattle.hp_model.specs.Kinds.{Sort, only, any, Declared, signature_of, is_fired, Columns, columns_by, Scope, with_name, with_sort, no_scope, is_only, meets, meet, only_if}
+use Rattle.hp_model.specs.Kinds.{common, all_assigned, assignments_kinded, arguments_kinded, statement_kinded, body_kinded, aggregate_sort, if_sorted, entries_kinded, with_entries}
+use Rattle.hp_model.specs.Kinds.{query_classes, rules_kinded, library_kinded, unit_kinded, is_given, gives_sort, sort_of}
 use Rattle.hp_analysis.specs.Findings as F
-use Rattle.hp_analysis.specs.Findings.{Wanted, Reason, Reasoned, Judged, found, finds_nothing, refused, placed, reasoned, suits, demanded, operand_sort, operands_sort, alike_check, ordered_check, comparable_check, comparison_sort, Reading, read_new, read_old, read_key, read_argument, read_time, argument_sort, read_sort, sort_with, sort_among, sort_at, row_field_sort, row_key_sort, count_sort, expression_check, kind_check, assignment_check, assignments_findings, update_findings, all_set, create_findings, none_missing, next_demand, later_demands, argument_check, arguments_findings, emission_check, query_known, single_check, own_findings, inner_findings, statement_findings, body_findings, value_sort, count_check, sum_check, is_ordered, extreme_check, aggregate_check, value_check, first_scope, test_check, entry_check, entries_findings, rule_findings, rules_findings, library_findings, unit_findings, unset_field, no_such_field, no_such_argument, unknown_name, not_fired}
+use Rattle.hp_analysis.specs.Findings.{Wanted, Reason, Reasoned, Judged, found, finds_nothing, refused, placed, reasoned, suits, demanded, operand_sort, operands_sort, alike_check}
+use Rattle.hp_analysis.specs.Findings.{ordered_check, comparable_check, comparison_sort, Reading, read_new, read_old, read_key, read_argument, read_time, argument_sort, read_sort}
+use Rattle.hp_analysis.specs.Findings.{sort_with, sort_among, sort_at, row_field_sort, row_key_sort, count_sort, expression_check, kind_check, assignment_check}
+use Rattle.hp_analysis.specs.Findings.{assignments_findings, update_findings, all_set, create_findings, none_missing, next_demand, later_demands, argument_check}
+use Rattle.hp_analysis.specs.Findings.{arguments_findings, emission_check, query_known, single_check, own_findings, inner_findings, statement_findings, body_findings, value_sort}
+use Rattle.hp_analysis.specs.Findings.{count_check, sum_check, is_ordered, extreme_check, aggregate_check, value_check, first_scope, test_check, entry_check, entries_findings}
+use Rattle.hp_analysis.specs.Findings.{rule_findings, rules_findings, library_findings, unit_findings, unset_field, no_such_field, no_such_argument, unknown_name, not_fired}
 
 -- ---- results
 
@@ -59,9 +69,12 @@ meets_only : (k l m : Kind) → meets (meets (only k) (only l)) (only m) ≡ mee
 meets_only k l m =
     let P : Kind → Kind → Kind → Type 0 = λ k l m. meets (meets (only k) (only l)) (only m) ≡ meets (only k) (meets (only l) (only m)) in
     each_kind (λ k. P k l m)
-    (each_kind (λ l. P integer_kind l m) (each_kind (P integer_kind integer_kind) refl refl refl m) (each_kind (P integer_kind boolean_kind) refl refl refl m) (each_kind (P integer_kind text_kind) refl refl refl m) l)
-    (each_kind (λ l. P boolean_kind l m) (each_kind (P boolean_kind integer_kind) refl refl refl m) (each_kind (P boolean_kind boolean_kind) refl refl refl m) (each_kind (P boolean_kind text_kind) refl refl refl m) l)
-    (each_kind (λ l. P text_kind l m) (each_kind (P text_kind integer_kind) refl refl refl m) (each_kind (P text_kind boolean_kind) refl refl refl m) (each_kind (P text_kind text_kind) refl refl refl m) l)
+    (each_kind (λ l. P integer_kind l m) (each_kind (P integer_kind integer_kind) refl refl refl m) (each_kind (P integer_kind boolean_kind) refl refl refl m)
+    (each_kind (P integer_kind text_kind) refl refl refl m) l)
+    (each_kind (λ l. P boolean_kind l m) (each_kind (P boolean_kind integer_kind) refl refl refl m) (each_kind (P boolean_kind boolean_kind) refl refl refl m)
+    (each_kind (P boolean_kind text_kind) refl refl refl m) l)
+    (each_kind (λ l. P text_kind l m) (each_kind (P text_kind integer_kind) refl refl refl m) (each_kind (P text_kind boolean_kind) refl refl refl m)
+    (each_kind (P text_kind text_kind) refl refl refl m) l)
     k
 
 only_if_any : (b : Bool) (k : Kind) → meets (only_if b k) any ≡ any
@@ -210,7 +223,8 @@ module _ (read : Pattern → Reasoned Sort) (test : Pattern → Option Sort) (sa
       by (Err r) o e = ap (meet (Some s)) e
   among_with s p (q ∷ ps) = by (λ t. among_with (meets s t) q ps) (read p) (test p) (same p)
     where
-      by : ((t : Sort) → value_in (sort_with read (meets s t) (q ∷ ps)) ≡ meet (Some (meets s t)) (common test (q ∷ ps))) → (r : Reasoned Sort) (o : Option Sort) → value_in r ≡ o → value_in (r >>= λ t. sort_with read (meets s t) (q ∷ ps)) ≡ meet (Some s) (meet o (common test (q ∷ ps)))
+      by : ((t : Sort) → value_in (sort_with read (meets s t) (q ∷ ps)) ≡ meet (Some (meets s t)) (common test (q ∷ ps))) → (r : Reasoned Sort) (o : Option Sort)
+          → value_in r ≡ o → value_in (r >>= λ t. sort_with read (meets s t) (q ∷ ps)) ≡ meet (Some s) (meet o (common test (q ∷ ps)))
       by later (Ok t) o e = later t ∙ meet_assoc s t (common test (q ∷ ps)) ∙ ap (λ u. meet (Some s) (meet u (common test (q ∷ ps)))) e
       by later (Err r) o e = ap (λ u. meet (Some s) (meet u (common test (q ∷ ps)))) e
 
@@ -380,14 +394,17 @@ pairs_judged library d scope fields path i [] = refl
 pairs_judged library d scope fields path i (a ∷ pairs) =
     both_find (found (assignment_check library d scope fields (item_at path i) a)) (assignments_findings library d scope fields path (suc i) pairs)
     (is_given (kind_in fields a.field) (sort_of library d scope a.value)) (assignments_kinded library d scope fields pairs)
-    (one_finds (assignment_check library d scope fields (item_at path i) a) (is_given (kind_in fields a.field) (sort_of library d scope a.value)) (assignment_judged library d scope fields (item_at path i) a))
+    (one_finds (assignment_check library d scope fields (item_at path i) a) (is_given (kind_in fields a.field) (sort_of library d scope a.value))
+    (assignment_judged library d scope fields (item_at path i) a))
     (pairs_judged library d scope fields path (suc i) pairs)
 
-kind_finds : (library : Library) (d : Declared) (scope : Scope) (k : Kind) (path : Path) (e : Expression) → finds_nothing (found (kind_check library d scope k path e)) ≡ is_only k (sort_of library d scope e)
+kind_finds : (library : Library) (d : Declared) (scope : Scope) (k : Kind) (path : Path) (e : Expression)
+    → finds_nothing (found (kind_check library d scope k path e)) ≡ is_only k (sort_of library d scope e)
 kind_finds library d scope k path e = one_finds (kind_check library d scope k path e) (is_only k (sort_of library d scope e)) (kind_judged library d scope k path e)
 
 update_judged : (library : Library) (d : Declared) (scope : Scope) (path : Path) (class : ℕ) (key : Expression) (pairs : List Assignment)
-    → finds_nothing (update_findings library d scope path class key pairs) ≡ (is_only integer_kind (sort_of library d scope key) && assignments_kinded library d scope (class_at library class).fields pairs)
+    → finds_nothing (update_findings library d scope path class key pairs) ≡ (is_only integer_kind (sort_of library d scope key)
+    && assignments_kinded library d scope (class_at library class).fields pairs)
 update_judged library d scope path class key pairs =
     both_find (found (kind_check library d scope integer_kind (item_at path 2) key)) (assignments_findings library d scope (class_at library class).fields (item_at path 3) 0 pairs)
     (is_only integer_kind (sort_of library d scope key)) (assignments_kinded library d scope (class_at library class).fields pairs)
@@ -404,7 +421,8 @@ create_judged library d scope path class key pairs =
     let fields = (class_at library class).fields in
     both_find (update_findings library d scope path class key pairs) (found (all_set (item_at path 3) fields pairs))
     (is_only integer_kind (sort_of library d scope key) && assignments_kinded library d scope fields pairs) (all_assigned fields pairs)
-    (update_judged library d scope path class key pairs) (one_finds (all_set (item_at path 3) fields pairs) (all_assigned fields pairs) (choice (all_assigned fields pairs) (item_at path 3) unset_field))
+    (update_judged library d scope path class key pairs) (one_finds (all_set (item_at path 3) fields pairs) (all_assigned fields pairs)
+    (choice (all_assigned fields pairs) (item_at path 3) unset_field))
     ∙ and_assoc (is_only integer_kind (sort_of library d scope key)) (assignments_kinded library d scope fields pairs) (all_assigned fields pairs)
 
 -- what is demanded of the next argument
@@ -440,7 +458,8 @@ arguments_judged library d scope path i ss [] = one_finds (none_missing path ss)
 arguments_judged library d scope path i ss (e ∷ es) =
     both_find (found (argument_check library d scope (next_demand ss) (item_at (item_at path 2) i) e)) (arguments_findings library d scope path (suc i) (later_demands ss) es)
     (meets_demand (next_demand ss) (sort_of library d scope e)) (arguments_kinded library d scope (later_demands ss) es)
-    (one_finds (argument_check library d scope (next_demand ss) (item_at (item_at path 2) i) e) (meets_demand (next_demand ss) (sort_of library d scope e)) (argument_judged library d scope (next_demand ss) (item_at (item_at path 2) i) e))
+    (one_finds (argument_check library d scope (next_demand ss) (item_at (item_at path 2) i) e) (meets_demand (next_demand ss) (sort_of library d scope e))
+    (argument_judged library d scope (next_demand ss) (item_at (item_at path 2) i) e))
     (arguments_judged library d scope path (suc i) (later_demands ss) es)
     ∙ arguments_step library d scope ss e es
 
@@ -493,11 +512,14 @@ mutual
   statement_judged library d scope queries path (update class key pairs) =
       plain_judged (update_findings library d scope path class key pairs) (statement_kinded library d scope queries (update class key pairs)) (update_judged library d scope path class key pairs)
   statement_judged library d scope queries path (delete class key) =
-      plain_judged (found (kind_check library d scope integer_kind (item_at path 2) key)) (statement_kinded library d scope queries (delete class key)) (kind_finds library d scope integer_kind (item_at path 2) key)
+      plain_judged (found (kind_check library d scope integer_kind (item_at path 2) key)) (statement_kinded library d scope queries (delete class key))
+      (kind_finds library d scope integer_kind (item_at path 2) key)
   statement_judged library d scope queries path (signal name arguments) =
-      plain_judged (arguments_findings library d scope path 0 (signature_of d name) arguments) (statement_kinded library d scope queries (signal name arguments)) (arguments_judged library d scope path 0 (signature_of d name) arguments)
+      plain_judged (arguments_findings library d scope path 0 (signature_of d name) arguments) (statement_kinded library d scope queries (signal name arguments))
+      (arguments_judged library d scope path 0 (signature_of d name) arguments)
   statement_judged library d scope queries path (emit e) =
-      plain_judged (found (emission_check library d scope path e)) (statement_kinded library d scope queries (emit e)) (one_finds (emission_check library d scope path e) (is_some (sort_of library d scope e)) (emission_judged library d scope path e))
+      plain_judged (found (emission_check library d scope path e)) (statement_kinded library d scope queries (emit e))
+      (one_finds (emission_check library d scope path e) (is_some (sort_of library d scope e)) (emission_judged library d scope path e))
   statement_judged library d scope queries path (when e a b) =
       both_find (found (kind_check library d scope boolean_kind (item_at path 1) e))
       (body_findings library d scope queries (item_at path 2) 0 a ++ body_findings library d scope queries (item_at path 3) 0 b)
@@ -532,7 +554,8 @@ mutual
       (body_judged library d inner queries (item_at path 3) 0 body)
       ∙ held_kinded (aggregate_sort library d scope a) (λ s. body_kinded library d (with_sort x s scope) queries body)
   statement_judged library d scope queries path (veto_with e) =
-      plain_judged (found (emission_check library d scope path e)) (statement_kinded library d scope queries (veto_with e)) (one_finds (emission_check library d scope path e) (is_some (sort_of library d scope e)) (emission_judged library d scope path e))
+      plain_judged (found (emission_check library d scope path e)) (statement_kinded library d scope queries (veto_with e))
+      (one_finds (emission_check library d scope path e) (is_some (sort_of library d scope e)) (emission_judged library d scope path e))
   statement_judged library d scope queries path abort = refl
   statement_judged library d scope queries path veto = refl
   statement_judged library d scope queries path (on_rule op n) = refl

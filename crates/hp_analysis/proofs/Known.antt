@@ -5,7 +5,8 @@ use Rattle.std.specs.List.{list_all}
 use Rattle.std.proofs.lemmas.Bool.{and_parts, and_from, lt-ltb}
 use Rattle.std.proofs.lemmas.List.Folds.{list_all-append}
 use Rattle.hp_model.specs.Occurrences.{Primitive, created, updated, deleted, signalled, commit_reached}
-use Rattle.hp_model.specs.Rules.{Rule, Library, Statement, create, update, delete, signal, emit, when, each, for_answer, with_object, subtransaction, let_value, abort, veto, veto_with, on_rule, fire, Body, empty, ◌then◌}
+use Rattle.hp_model.specs.Rules.{Rule, Library, Statement, create, update, delete, signal, emit, when, each, for_answer, with_object, subtransaction, let_value, abort, veto}
+use Rattle.hp_model.specs.Rules.{veto_with, on_rule, fire, Body, empty, ◌then◌}
 use Rattle.hp_model.specs.Checked.{Scope, library_check, action_scope, Names, knowing_row, knowing_value, names_of}
 use Rattle.hp_model.specs.Chains.{completes, triggers_from, signal_triggers, statement_triggers, body_triggers, may_detach}
 use Rattle.hp_rule.specs.WellNamed.{knows_expression, knows_class, knows_event, knows_aggregate, knows_entries, knows_statement, knows_body, knows_rule}
@@ -29,7 +30,8 @@ module _ (library : Library) where
       let here : n < length library.rules = omega (arith, e) in
       by (completes rule.event p) (lt-ltb n (length library.rules) here) (listed_below (suc n) rules p (omega (arith, e)))
     where
-      by : (b : Bool) → IsTrue (below n) → IsTrue (list_all below (triggers_from (suc n) rules p)) → IsTrue (list_all below (if b then n ∷ triggers_from (suc n) rules p else triggers_from (suc n) rules p))
+      by : (b : Bool) → IsTrue (below n) → IsTrue (list_all below (triggers_from (suc n) rules p))
+          → IsTrue (list_all below (if b then n ∷ triggers_from (suc n) rules p else triggers_from (suc n) rules p))
       by true here rest = and_from (below n) (list_all below (triggers_from (suc n) rules p)) here rest
       by false here rest = rest
 
@@ -49,15 +51,18 @@ module _ (library : Library) where
           both_below (body_triggers library a) (body_triggers library b) (body_below names a parts.0) (body_below names b parts.1)
       statement_below names (each x class predicate body) h =
           body_below (knowing_row x names) body
-          (and_parts (knows_expression (knowing_row x names) predicate) (knows_body scope (knowing_row x names) body) (and_parts (knows_class scope class) (knows_expression (knowing_row x names) predicate && knows_body scope (knowing_row x names) body) h).1).1
+          (and_parts (knows_expression (knowing_row x names) predicate) (knows_body scope (knowing_row x names) body)
+          (and_parts (knows_class scope class) (knows_expression (knowing_row x names) predicate && knows_body scope (knowing_row x names) body) h).1).1
       statement_below names (for_answer x body) h = body_below names body (and_parts _ (knows_body scope names body) h).1
       statement_below names (with_object x class key body) h =
           body_below (knowing_row x names) body
-          (and_parts (knows_expression names key) (knows_body scope (knowing_row x names) body) (and_parts (knows_class scope class) (knows_expression names key && knows_body scope (knowing_row x names) body) h).1).1
+          (and_parts (knows_expression names key) (knows_body scope (knowing_row x names) body)
+          (and_parts (knows_class scope class) (knows_expression names key && knows_body scope (knowing_row x names) body) h).1).1
       statement_below names (subtransaction body otherwise) h =
           let parts = and_parts (knows_body scope names body) (knows_body scope names otherwise) h in
           both_below (body_triggers library body) (body_triggers library otherwise) (body_below names body parts.0) (body_below names otherwise parts.1)
-      statement_below names (let_value x a body) h = body_below (knowing_value x names) body (and_parts (knows_aggregate (length scope.classes) names a) (knows_body scope (knowing_value x names) body) h).1
+      statement_below names (let_value x a body) h =
+          body_below (knowing_value x names) body (and_parts (knows_aggregate (length scope.classes) names a) (knows_body scope (knowing_value x names) body) h).1
       statement_below names abort h = refl
       statement_below names veto h = refl
       statement_below names (veto_with e) h = refl
@@ -75,7 +80,8 @@ module _ (library : Library) where
       let action = action_scope library.classes (length library.rules) r.condition in
       let body = (and_parts (knows_entries (length library.classes) [] r.condition) (knows_body action (names_of r.condition) r.action)
       (and_parts (knows_event (length library.classes) r.event) (knows_entries (length library.classes) [] r.condition && knows_body action (names_of r.condition) r.action) h).1).1 in
-      both_below (body_triggers library r.action) (if may_detach r then signal_triggers library commit_reached else []) (body_below action refl (names_of r.condition) r.action body) (commit (may_detach r))
+      both_below (body_triggers library r.action) (if may_detach r then signal_triggers library commit_reached else []) (body_below action refl (names_of r.condition) r.action body)
+      (commit (may_detach r))
     where
       commit : (b : Bool) → IsTrue (list_all below (if b then signal_triggers library commit_reached else []))
       commit true = signal_below commit_reached
@@ -109,11 +115,13 @@ module _ (library : Library) (set : List Bool) where
       by true = rule_below only r (subst (λ count. IsTrue (knows_rule library.classes count r)) (sym (only_length set library)) h)
       by false = commit (may_detach idle)
 
-  each_known : (n : ℕ) (rules : List Rule) → IsTrue (list_all (knows_rule library.classes (length library.rules)) rules) → IsTrue (list_all (knows_targets only) (idle_from (has set) (length library.classes) n rules))
+  each_known : (n : ℕ) (rules : List Rule) → IsTrue (list_all (knows_rule library.classes (length library.rules)) rules)
+      → IsTrue (list_all (knows_targets only) (idle_from (has set) (length library.classes) n rules))
   each_known n [] h = refl
   each_known n (r ∷ rs) h =
       let parts = and_parts (knows_rule library.classes (length library.rules) r) (list_all (knows_rule library.classes (length library.rules)) rs) h in
-      and_from (knows_targets only (rule_in set (length library.classes) n r)) (list_all (knows_targets only) (idle_from (has set) (length library.classes) (suc n) rs)) (one_known n r parts.0) (each_known (suc n) rs parts.1)
+      and_from (knows_targets only (rule_in set (length library.classes) n r)) (list_all (knows_targets only) (idle_from (has set) (length library.classes) (suc n) rs))
+      (one_known n r parts.0) (each_known (suc n) rs parts.1)
 
 pub only_known : (library : Library) (set : List Bool) → library_check library ≡ Ok tt → list_all (knows_targets (with_only set library)) (with_only set library).rules ≡ true
 only_known library set checked = each_known library set 0 library.rules (library_is_well_named library checked).rules_know

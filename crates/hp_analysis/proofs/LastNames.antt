@@ -72,7 +72,8 @@ take_next (suc i) [] x rest h = cc
 take_next (suc i) (y ∷ xs) x rest h = let e : suc i + 1 ≡ suc (i + 1) = omega arith in ap (λ n. take n (y ∷ xs)) e ∙ ap (λ l. y ∷ l) (take_next i xs x rest h)
 
 -- the scope after one more entry, whose value has this sort
-pub scope_step : (library : Library) (d : Declared) (c : Columns) (es : List AnEntry) (i : ℕ) (e : AnEntry) (ns ns' : List NamedSort) (n : Option NamedSort) → drop i es ≡ e ∷ drop (i + 1) es → ns' ≡ kept n ns
+pub scope_step : (library : Library) (d : Declared) (c : Columns) (es : List AnEntry) (i : ℕ) (e : AnEntry) (ns ns' : List NamedSort) (n : Option NamedSort)
+    → drop i es ≡ e ∷ drop (i + 1) es → ns' ≡ kept n ns
     → scope_after_entry (scope_there c (map entry (take i es)) ns) (entry e) n ≡ scope_then library d (scope_there c (map entry (take i es)) ns) (entry e)
     → scope_there c (map entry (take (i + 1) es)) ns' ≡ scope_then library d (scope_there c (map entry (take i es)) ns) (entry e)
 scope_step library d c es i e ns ns' n split is given =
@@ -80,8 +81,10 @@ scope_step library d c es i e ns ns' n split is given =
     ap₂ (scope_there c) taken is ∙ sym (scope_next c (map entry (take i es)) ns (entry e) n) ∙ given
 
 -- what is found in one more entry, and in those after it
-pub entries_noted : (library : Library) (d : Declared) (path : Path) (there inner : Scope) (i : ℕ) (e : Entry) (before rest : List Entry) (old new whole : List Finding) → before ≡ e ∷ rest → inner ≡ scope_then library d there e
-    → new ≡ old ++ found (entry_check library d there (item_at path i) e) → old ++ entries_findings library d path there i before ≡ whole → new ++ entries_findings library d path inner (i + 1) rest ≡ whole
+pub entries_noted : (library : Library) (d : Declared) (path : Path) (there inner : Scope) (i : ℕ) (e : Entry) (before rest : List Entry) (old new whole : List Finding)
+    → before ≡ e ∷ rest → inner ≡ scope_then library d there e
+    → new ≡ old ++ found (entry_check library d there (item_at path i) e) → old ++ entries_findings library d path there i before ≡ whole
+    → new ++ entries_findings library d path inner (i + 1) rest ≡ whole
 entries_noted library d path there inner i e before rest old new whole split same gained kept =
     let next : i + 1 ≡ suc i = omega arith in
     let one = found (entry_check library d there (item_at path i) e) in
@@ -96,6 +99,7 @@ entries_then library d scope (no_entry q) es = refl
 entries_then library d scope (let_entry x a) es = refl
 
 -- the scope after one more entry and those after it
-pub scope_noted : (library : Library) (d : Declared) (there inner whole : Scope) (e : Entry) (before rest : List Entry) → before ≡ e ∷ rest → inner ≡ scope_then library d there e → with_entries library d there before ≡ whole → with_entries library d inner rest ≡ whole
+pub scope_noted : (library : Library) (d : Declared) (there inner whole : Scope) (e : Entry) (before rest : List Entry) → before ≡ e ∷ rest
+    → inner ≡ scope_then library d there e → with_entries library d there before ≡ whole → with_entries library d inner rest ≡ whole
 scope_noted library d there inner whole e before rest split same kept =
     ap (λ s. with_entries library d s rest) same ∙ entries_then library d there e rest ∙ ap (with_entries library d there) (sym split) ∙ kept

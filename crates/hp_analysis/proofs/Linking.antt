@@ -1,16 +1,19 @@
 -- There is a link wherever a rule may trigger another one, and what it names stands there.
-use Rattle.std.proofs.Common.{arith, ◌≡◌, refl, sym, ap, ◌∙◌, subst, ℕ, zero, suc, pos, ◌+◌, ◌<◌, ◌==◌, Bool, true, false, List, [], ◌∷◌, ◌++◌, Option, Some, None, IsTrue, append_assoc, append-nil, inl, inr}
+use Rattle.std.proofs.Common.{arith, ◌≡◌, refl, sym, ap, ◌∙◌, subst, ℕ, zero, suc, pos, ◌+◌, ◌<◌, ◌==◌, Bool, true, false, List, [], ◌∷◌, ◌++◌, Option, Some, None, IsTrue}
+use Rattle.std.proofs.Common.{append_assoc, append-nil, inl, inr}
 use Rattle.std.proofs.lemmas.Bool.Decides.{nat_tests}
 use Rattle.std.specs.Prelude.{◌⊎◌, ◌||◌, is_some, unwrap_or, slice_get, if◌then◌else◌}
 use Rattle.std.specs.List.{list_any}
 use Rattle.std.specs.Option.{option_or, option_and_then}
 use Rattle.hp_model.specs.Occurrences.{Primitive, created, updated, deleted, signalled, commit_reached}
 use Rattle.hp_model.specs.Events.{Pattern, matches, Event, pattern_event, or_event, seq_event, closure_event}
-use Rattle.hp_model.specs.Rules.{Statement, create, update, delete, signal, emit, when, each, for_answer, with_object, subtransaction, let_value, abort, veto, veto_with, on_rule, fire, Body, empty, ◌then◌, Rule, Library}
+use Rattle.hp_model.specs.Rules.{Statement, create, update, delete, signal, emit, when, each, for_answer, with_object, subtransaction, let_value, abort, veto, veto_with, on_rule}
+use Rattle.hp_model.specs.Rules.{fire, Body, empty, ◌then◌, Rule, Library}
 use Rattle.hp_model.specs.Refusals.{to_item, Path, item_at}
 use Rattle.hp_model.specs.Chains.{completes, triggers_from, signal_triggers, statement_triggers, body_triggers, may_detach, rule_triggers}
 use Rattle.hp_analysis.specs.Parts.{along}
-use Rattle.hp_analysis.specs.Links.{Link, rule_path, event_path, linked, by_signal, statement_link, body_link, mode_path, commit_link, link_between, link_onward, rule_link, statement_below, body_below, pattern_below, EndsAt, TriggersAt, IsLink, LinksStand}
+use Rattle.hp_analysis.specs.Links.{Link, rule_path, event_path, linked, by_signal, statement_link, body_link, mode_path, commit_link, link_between, link_onward, rule_link}
+use Rattle.hp_analysis.specs.Links.{statement_below, body_below, pattern_below, EndsAt, TriggersAt, IsLink, LinksStand}
 use Rattle.hp_analysis.proofs.Bodies.{body_from, from_start, statement_is, later_is}
 
 -- ---- events
@@ -21,7 +24,8 @@ Ends path e p found = (steps : Path) × (pattern : Pattern) × (found ≡ path +
 same_value : {A : Type 0} (x y : A) → Some x ≡ Some y → y ≡ x
 same_value x y is = sym (ap (λ o. unwrap_or o x) is)
 
-ends_deeper : (path : Path) (i : ℕ) (e a : Event) (p : Primitive) (found : Path) → ((steps : Path) → pattern_below (to_item i ∷ steps) e ≡ pattern_below steps a) → Ends (item_at path i) a p found → Ends path e p found
+ends_deeper : (path : Path) (i : ℕ) (e a : Event) (p : Primitive) (found : Path) → ((steps : Path) → pattern_below (to_item i ∷ steps) e ≡ pattern_below steps a)
+    → Ends (item_at path i) a p found → Ends path e p found
 ends_deeper path i e a p found same (steps, pattern, is, there, matched) = (to_item i ∷ steps, pattern, is ∙ append_assoc path (to_item i ∷ []) steps, same steps ∙ there, matched)
 
 event_stands : (path : Path) (e : Event) (p : Primitive) (found : Path) → event_path path e p ≡ Some found → Ends path e p found
@@ -33,7 +37,8 @@ event_stands path (pattern_event pattern) p found is = by (matches pattern p) re
 event_stands path (or_event a b) p found is =
     by (event_path (item_at path 1) a p) refl (λ h. event_stands (item_at path 1) a p found h) (λ h. event_stands (item_at path 2) b p found h) is
   where
-    by : (o : Option Path) → event_path (item_at path 1) a p ≡ o → (event_path (item_at path 1) a p ≡ Some found → Ends (item_at path 1) a p found) → (event_path (item_at path 2) b p ≡ Some found → Ends (item_at path 2) b p found)
+    by : (o : Option Path) → event_path (item_at path 1) a p ≡ o → (event_path (item_at path 1) a p ≡ Some found → Ends (item_at path 1) a p found)
+        → (event_path (item_at path 2) b p ≡ Some found → Ends (item_at path 2) b p found)
         → option_or o (event_path (item_at path 2) b p) ≡ Some found → Ends path (or_event a b) p found
     by None first at_a at_b is = ends_deeper path 2 (or_event a b) b p found (λ steps. refl) (at_b is)
     by (Some q) first at_a at_b is = ends_deeper path 1 (or_event a b) a p found (λ steps. refl) (at_a (first ∙ is))
@@ -53,7 +58,8 @@ event_found : (path : Path) (e : Event) (p : Primitive) → completes e p ≡ tr
 event_found path (pattern_event pattern) p is = ap (λ b. is_some (if b then Some path else None)) is
 event_found path (or_event a b) p is =
     some_or (event_path (item_at path 1) a p) (event_path (item_at path 2) b p)
-    ∙ either_holds (completes a p) (completes b p) (is_some (event_path (item_at path 1) a p)) (is_some (event_path (item_at path 2) b p)) (λ h. event_found (item_at path 1) a p h) (λ h. event_found (item_at path 2) b p h) is
+    ∙ either_holds (completes a p) (completes b p) (is_some (event_path (item_at path 1) a p)) (is_some (event_path (item_at path 2) b p))
+    (λ h. event_found (item_at path 1) a p h) (λ h. event_found (item_at path 2) b p h) is
 event_found path (seq_event a b) p is = event_found (item_at path 2) b p is
 event_found path (closure_event a t) p is = event_found (item_at path 2) t p is
 
@@ -136,11 +142,13 @@ module _ (library : Library) (m : ℕ) (next : Rule) (there : slice_get library.
   abbrev BelowBody : Body → Path → Option Statement
   BelowBody b steps = body_below steps b
 
-  stands_deeper : (outer inner : Path → Option Statement) (path : Path) (i : ℕ) (l : Link) → ((steps : Path) → outer (to_item i ∷ steps) ≡ inner steps) → Stands inner (item_at path i) l → Stands outer path l
+  stands_deeper : (outer inner : Path → Option Statement) (path : Path) (i : ℕ) (l : Link) → ((steps : Path) → outer (to_item i ∷ steps) ≡ inner steps)
+      → Stands inner (item_at path i) l → Stands outer path l
   stands_deeper outer inner path i l same (steps, s, is, at, triggers) = (to_item i ∷ steps, s, is ∙ append_assoc path (to_item i ∷ []) steps, same steps ∙ at, triggers)
 
   -- of two places the first that has a link
-  two_stand : (outer one other : Path → Option Statement) (path : Path) (i j : ℕ) (a b : Option Link) (l : Link) → ((steps : Path) → outer (to_item i ∷ steps) ≡ one steps) → ((steps : Path) → outer (to_item j ∷ steps) ≡ other steps)
+  two_stand : (outer one other : Path → Option Statement) (path : Path) (i j : ℕ) (a b : Option Link) (l : Link) → ((steps : Path) → outer (to_item i ∷ steps) ≡ one steps)
+      → ((steps : Path) → outer (to_item j ∷ steps) ≡ other steps)
       → (a ≡ Some l → Stands one (item_at path i) l) → (b ≡ Some l → Stands other (item_at path j) l) → option_or a b ≡ Some l → Stands outer path l
   two_stand outer one other path i j (Some k) b l first second at_one at_other is = stands_deeper outer one path i l first (at_one is)
   two_stand outer one other path i j None b l first second at_one at_other is = stands_deeper outer other path j l second (at_other is)
@@ -190,19 +198,26 @@ module _ (library : Library) (m : ℕ) (next : Rule) (there : slice_get library.
   mutual
     statement_stands : (path : Path) (s : Statement) (l : Link) → statement_link m next.event path s ≡ Some l → Stands (Below s) path l
     statement_stands path (create class key assignments) l is = let h = signal_stands path (created class (pos 0) []) l is in ([], create class key assignments, h.0 ∙ sym (append-nil path), refl, h.1)
-    statement_stands path (update class key assignments) l is = let h = signal_stands path (updated class (pos 0) [] []) l is in ([], update class key assignments, h.0 ∙ sym (append-nil path), refl, h.1)
+    statement_stands path (update class key assignments) l is = let h = signal_stands path (updated class (pos 0) [] []) l is in
+        ([], update class key assignments, h.0 ∙ sym (append-nil path), refl, h.1)
     statement_stands path (delete class key) l is = let h = signal_stands path (deleted class (pos 0) []) l is in ([], delete class key, h.0 ∙ sym (append-nil path), refl, h.1)
     statement_stands path (signal name arguments) l is = let h = signal_stands path (signalled name []) l is in ([], signal name arguments, h.0 ∙ sym (append-nil path), refl, h.1)
     statement_stands path (when e a b) l is =
-        two_stand (Below (when e a b)) (BelowBody a) (BelowBody b) path 2 3 (body_link m next.event (item_at path 2) 0 a) (body_link m next.event (item_at path 3) 0 b) l (λ steps. refl) (λ steps. refl)
+        two_stand (Below (when e a b)) (BelowBody a) (BelowBody b) path 2 3 (body_link m next.event (item_at path 2) 0 a) (body_link m next.event (item_at path 3) 0 b)
+        l (λ steps. refl) (λ steps. refl)
         (body_stands (item_at path 2) a 0 a l (from_start a)) (body_stands (item_at path 3) b 0 b l (from_start b)) is
-    statement_stands path (each x class predicate body) l is = stands_deeper (Below (each x class predicate body)) (BelowBody body) path 4 l (λ steps. refl) (body_stands (item_at path 4) body 0 body l (from_start body) is)
-    statement_stands path (for_answer x body) l is = stands_deeper (Below (for_answer x body)) (BelowBody body) path 2 l (λ steps. refl) (body_stands (item_at path 2) body 0 body l (from_start body) is)
-    statement_stands path (with_object x class key body) l is = stands_deeper (Below (with_object x class key body)) (BelowBody body) path 4 l (λ steps. refl) (body_stands (item_at path 4) body 0 body l (from_start body) is)
+    statement_stands path (each x class predicate body) l is = stands_deeper (Below (each x class predicate body)) (BelowBody body) path 4 l (λ steps. refl)
+        (body_stands (item_at path 4) body 0 body l (from_start body) is)
+    statement_stands path (for_answer x body) l is = stands_deeper (Below (for_answer x body)) (BelowBody body) path 2 l (λ steps. refl)
+        (body_stands (item_at path 2) body 0 body l (from_start body) is)
+    statement_stands path (with_object x class key body) l is = stands_deeper (Below (with_object x class key body)) (BelowBody body) path 4 l (λ steps. refl)
+        (body_stands (item_at path 4) body 0 body l (from_start body) is)
     statement_stands path (subtransaction a b) l is =
-        two_stand (Below (subtransaction a b)) (BelowBody a) (BelowBody b) path 1 2 (body_link m next.event (item_at path 1) 0 a) (body_link m next.event (item_at path 2) 0 b) l (λ steps. refl) (λ steps. refl)
+        two_stand (Below (subtransaction a b)) (BelowBody a) (BelowBody b) path 1 2 (body_link m next.event (item_at path 1) 0 a) (body_link m next.event (item_at path 2) 0 b)
+        l (λ steps. refl) (λ steps. refl)
         (body_stands (item_at path 1) a 0 a l (from_start a)) (body_stands (item_at path 2) b 0 b l (from_start b)) is
-    statement_stands path (let_value x a body) l is = stands_deeper (Below (let_value x a body)) (BelowBody body) path 3 l (λ steps. refl) (body_stands (item_at path 3) body 0 body l (from_start body) is)
+    statement_stands path (let_value x a body) l is = stands_deeper (Below (let_value x a body)) (BelowBody body) path 3 l (λ steps. refl)
+        (body_stands (item_at path 3) body 0 body l (from_start body) is)
     statement_stands path (fire n) l is = by (n == m) refl is
       where
         by : (b : Bool) → (n == m) ≡ b → (if b then Some (record { by = path; event = rule_path m }) else None) ≡ Some l → Stands (Below (fire n)) path l
@@ -258,13 +273,15 @@ module _ (library : Library) (m : ℕ) (next : Rule) (there : slice_get library.
       by None first is = commit_stands n rule l is
       by (Some k) first is = inl (body_stands (item_at (rule_path n) 5) rule.action 0 rule.action l (from_start rule.action) (first ∙ is))
 
-  pub link_stands : (n : ℕ) (rule : Rule) → slice_get library.rules n ≡ Some rule → is_among m (rule_triggers library rule) ≡ true → (l : Link) × (rule_link library n m ≡ Some l) × IsLink n rule m next.event l
+  pub link_stands : (n : ℕ) (rule : Rule) → slice_get library.rules n ≡ Some rule → is_among m (rule_triggers library rule) ≡ true
+      → (l : Link) × (rule_link library n m ≡ Some l) × IsLink n rule m next.event l
   link_stands n rule at is =
       let same : rule_link library n m ≡ link_between n rule m next.event =
       ap (λ o. option_and_then (λ (r : Rule). link_onward n r m (slice_get library.rules m)) o) at ∙ ap (link_onward n rule m) there in
       by (link_between n rule m next.event) refl same (between_found n rule is)
     where
-      by : (o : Option Link) → link_between n rule m next.event ≡ o → rule_link library n m ≡ link_between n rule m next.event → is_some o ≡ true → (l : Link) × (rule_link library n m ≡ Some l) × IsLink n rule m next.event l
+      by : (o : Option Link) → link_between n rule m next.event ≡ o → rule_link library n m ≡ link_between n rule m next.event → is_some o ≡ true
+          → (l : Link) × (rule_link library n m ≡ Some l) × IsLink n rule m next.event l
       by (Some l) found same is = (l, same ∙ found, between_stands n rule l found)
       by None found same is = cc
 

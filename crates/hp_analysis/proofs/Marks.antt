@@ -3,7 +3,8 @@ use Rattle.std.proofs.Common.{◌≡◌, refl, sym, ap, ap₂, ◌∙◌, ℕ, s
 use Rattle.std.specs.Prelude.{◌||◌, if◌then◌else◌, slice_set}
 use Rattle.hp_model.specs.Occurrences.{Primitive, created, updated, deleted, signalled, commit_reached}
 use Rattle.hp_model.specs.Events.{Event, pattern_event, or_event, seq_event, closure_event, Pattern, on_create, on_update, on_delete, on_signal, on_commit, at_moment, every_moment, matches}
-use Rattle.hp_model.specs.Rules.{Statement, create, update, delete, signal, emit, when, each, for_answer, with_object, subtransaction, let_value, abort, veto, veto_with, on_rule, fire, Body, ◌then◌, Rule, Library}
+use Rattle.hp_model.specs.Rules.{Statement, create, update, delete, signal, emit, when, each, for_answer, with_object, subtransaction, let_value, abort, veto, veto_with, on_rule}
+use Rattle.hp_model.specs.Rules.{fire, Body, ◌then◌, Rule, Library}
 use Rattle.hp_model.specs.Chains.{completes, triggers_from, signal_triggers, statement_triggers, body_triggers, may_detach, rule_triggers, unit_triggers}
 use Rattle.hp_model.specs.Cascade.{Unit, transaction, moment}
 use Rattle.hp_rule.specs.Index.{numbers_from}
@@ -75,7 +76,8 @@ own_listed l library is (fire n) plain = cc
 
 -- ---- statements, rules and moments
 
-pub body_marked : (library : Library) (s : Statement) (rest : Body) (set : List Bool) → marked (body_triggers library (s then rest)) set ≡ marked (body_triggers library rest) (marked (statement_triggers library s) set)
+pub body_marked : (library : Library) (s : Statement) (rest : Body) (set : List Bool)
+    → marked (body_triggers library (s then rest)) set ≡ marked (body_triggers library rest) (marked (statement_triggers library s) set)
 body_marked library s rest set = marked_append (statement_triggers library s) (body_triggers library rest) set
 
 -- one more rule of a moment's

@@ -1,7 +1,8 @@
 -- What the program measures of an expression is whether it is calm, and how far from 0 its values are.
 use Rattle.std.proofs.Common.{◌≡◌, refl, ap, ap₂, ◌∙◌, ℕ, Bool, true, false, ◌&&◌, Option, Some, None}
 use Rattle.std.specs.Prelude.{if◌then◌else◌, is_some}
-use Rattle.hp_model.specs.Expressions.{Arithmetic, plus, minus, times, quotient, remainder, Expression, constant, arithmetic, negated, inverted, both, either, compared, field_of, key_of, new_field, old_field, key_in, argument, time_of, occurrence_count, value_named, time_now}
+use Rattle.hp_model.specs.Expressions.{Arithmetic, plus, minus, times, quotient, remainder, Expression, constant, arithmetic, negated, inverted, both, either, compared, field_of}
+use Rattle.hp_model.specs.Expressions.{key_of, new_field, old_field, key_in, argument, time_of, occurrence_count, value_named, time_now}
 use Rattle.hp_model.specs.Kinds.{known_divisor, quotient_bound, magnitude, is_small, is_nonzero, is_calm, is_result_calm}
 use Rattle.hp_analysis.specs.Measures.{small, result_measure, if_both, if_calm, measured}
 
@@ -24,7 +25,8 @@ alone true m = refl
 alone false m = refl
 
 -- an operation on values of which the bounds are known
-both_known : (op : Arithmetic) (a b : Bool) (x y : Expression) → if_both (bound_if a (magnitude x)) (bound_if b (magnitude y)) (λ m n. result_measure op m n (known_divisor y)) ≡ bound_if ((a && b) && is_result_calm op x y) (magnitude (arithmetic op x y))
+both_known : (op : Arithmetic) (a b : Bool) (x y : Expression)
+    → if_both (bound_if a (magnitude x)) (bound_if b (magnitude y)) (λ m n. result_measure op m n (known_divisor y)) ≡ bound_if ((a && b) && is_result_calm op x y) (magnitude (arithmetic op x y))
 both_known plus true true x y = refl
 both_known minus true true x y = refl
 both_known times true true x y = refl

@@ -4,17 +4,28 @@ use Rattle.std.specs.Prelude.{⊤, bytes_eq, slice_get, unwrap_or, if◌then◌e
 use Rattle.std.specs.List.{AllByRecursion}
 use Rattle.std.specs.Map.{lookup}
 use Rattle.hp_model.specs.Values.{Name, Kind, integer_kind, boolean_kind, text_kind, Field, ◌>>=◌}
-use Rattle.hp_model.specs.Expressions.{Comparison, equal, unequal, less, at_most, greater, at_least, Expression, constant, arithmetic, negated, inverted, both, either, compared, field_of, key_of, new_field, old_field, key_in, argument, time_of, occurrence_count, value_named, time_now}
+use Rattle.hp_model.specs.Expressions.{Comparison, equal, unequal, less, at_most, greater, at_least, Expression, constant, arithmetic, negated, inverted, both, either, compared}
+use Rattle.hp_model.specs.Expressions.{field_of, key_of, new_field, old_field, key_in, argument, time_of, occurrence_count, value_named, time_now}
 use Rattle.hp_model.specs.Rules.{Aggregate, count_over, sum_over, least_over, greatest_over, next_key, single, Entry, query_entry, no_entry, let_entry}
-use Rattle.hp_model.specs.Rules.{Assignment, Statement, create, update, delete, signal, emit, when, each, for_answer, with_object, subtransaction, let_value, abort, veto, veto_with, on_rule, fire, Body, empty, ◌then◌, Rule, Library, class_at}
+use Rattle.hp_model.specs.Rules.{Assignment, Statement, create, update, delete, signal, emit, when, each, for_answer, with_object, subtransaction, let_value, abort, veto}
+use Rattle.hp_model.specs.Rules.{veto_with, on_rule, fire, Body, empty, ◌then◌, Rule, Library, class_at}
 use Rattle.hp_model.specs.Firing.{kind_in}
 use Rattle.hp_model.specs.Cascade.{Unit, transaction, moment}
 use Rattle.hp_model.specs.Refusals.{to_item, Path, under_root, item_at}
 use Rattle.hp_model.specs.Kinds as K
-use Rattle.hp_model.specs.Kinds.{Sort, only, any, Declared, signature_of, is_fired, Columns, columns_by, Scope, with_name, with_sort, no_scope, is_only, all_assigned, aggregate_sort, entries_kinded, with_entries, query_classes, sort_of}
+use Rattle.hp_model.specs.Kinds.{Sort, only, any, Declared, signature_of, is_fired, Columns, columns_by, Scope, with_name, with_sort, no_scope, is_only, all_assigned}
+use Rattle.hp_model.specs.Kinds.{aggregate_sort, entries_kinded, with_entries, query_classes, sort_of}
 use Rattle.hp_analysis.specs.Findings as F
-use Rattle.hp_analysis.specs.Findings.{Finding, Wanted, Reason, Reasoned, Judged, found, finds_nothing, refused, placed, reasoned, suits, demanded, operand_sort, operands_sort, alike_check, ordered_check, comparable_check, comparison_sort, expression_check, kind_check, assignment_check, assignments_findings, update_findings, all_set, create_findings, none_missing, next_demand, later_demands, argument_check, arguments_findings, emission_check, query_known, single_check, own_findings, inner_findings, statement_findings, body_findings, value_sort, count_check, sum_check, is_ordered, extreme_check, aggregate_check, value_check, first_scope, test_check, entry_check, scope_then, entries_findings, rule_findings, rules_findings, library_findings, unit_findings, rules_member, row_field_sort, row_key_sort, count_sort, read_new, read_old, read_key, read_argument, read_time}
-use Rattle.hp_analysis.specs.Parts.{Part, expression_part, statement_part, field_part, pairs_part, query_part, along, part_in_expression, part_in_aggregate, part_in_pair, part_in_pairs, part_in_arguments, statement_at, part_in_statement, part_in_body, part_in_entry, part_in_condition, part_in_rule, part_in_rules, part_in_library, part_in_unit, is_wanted, IsRefused, ArePlaced}
+use Rattle.hp_analysis.specs.Findings.{Finding, Wanted, Reason, Reasoned, Judged, found, finds_nothing, refused, placed, reasoned, suits, demanded, operand_sort, operands_sort}
+use Rattle.hp_analysis.specs.Findings.{alike_check, ordered_check, comparable_check, comparison_sort, expression_check, kind_check, assignment_check, assignments_findings}
+use Rattle.hp_analysis.specs.Findings.{update_findings, all_set, create_findings, none_missing, next_demand, later_demands, argument_check, arguments_findings, emission_check}
+use Rattle.hp_analysis.specs.Findings.{query_known, single_check, own_findings, inner_findings, statement_findings, body_findings, value_sort, count_check, sum_check, is_ordered}
+use Rattle.hp_analysis.specs.Findings.{extreme_check, aggregate_check, value_check, first_scope, test_check, entry_check, scope_then, entries_findings, rule_findings}
+use Rattle.hp_analysis.specs.Findings.{rules_findings, library_findings, unit_findings, rules_member, row_field_sort, row_key_sort, count_sort, read_new, read_old, read_key}
+use Rattle.hp_analysis.specs.Findings.{read_argument, read_time}
+use Rattle.hp_analysis.specs.Parts.{Part, expression_part, statement_part, field_part, pairs_part, query_part, along, part_in_expression, part_in_aggregate, part_in_pair}
+use Rattle.hp_analysis.specs.Parts.{part_in_pairs, part_in_arguments, statement_at, part_in_statement, part_in_body, part_in_entry, part_in_condition, part_in_rule, part_in_rules}
+use Rattle.hp_analysis.specs.Parts.{part_in_library, part_in_unit, is_wanted, IsRefused, ArePlaced}
 use Rattle.hp_analysis.proofs.Bodies.{body_from, from_start, statement_is, later_is}
 use Rattle.hp_analysis.proofs.Judging.{value_in, chosen, sort_given, statement_judged}
 
@@ -32,16 +43,19 @@ module _ (library : Library) (d : Declared) where
   abbrev Standing : (Path → Option Part) → Path → Finding → Type 0
   Standing = Stands library d
 
-  located_then : {A B : Type 0} (parts : Path → Option Part) (path : Path) (a : Judged A) (b : A → Judged B) → Located library d parts path a → ((x : A) → a ≡ Ok x → Located library d parts path (b x)) → Located library d parts path (a >>= b)
+  located_then : {A B : Type 0} (parts : Path → Option Part) (path : Path) (a : Judged A) (b : A → Judged B) → Located library d parts path a
+      → ((x : A) → a ≡ Ok x → Located library d parts path (b x)) → Located library d parts path (a >>= b)
   located_then parts path (Ok x) b first later = later x refl
   located_then parts path (Err f) b first later = first
 
   -- what stands below an item of the path stands below the path
-  deeper : (parts inner : Path → Option Part) (path : Path) (i : ℕ) (f : Finding) → ((steps : Path) → parts (to_item i ∷ steps) ≡ inner steps) → Standing inner (item_at path i) f → Standing parts path f
+  deeper : (parts inner : Path → Option Part) (path : Path) (i : ℕ) (f : Finding) → ((steps : Path) → parts (to_item i ∷ steps) ≡ inner steps)
+      → Standing inner (item_at path i) f → Standing parts path f
   deeper parts inner path i f same (steps, part, is, found, fails) =
       (to_item i ∷ steps, part, is ∙ append_assoc path (to_item i ∷ []) steps, same steps ∙ found, fails)
 
-  located_deeper : {A : Type 0} (parts inner : Path → Option Part) (path : Path) (i : ℕ) (r : Judged A) → ((steps : Path) → parts (to_item i ∷ steps) ≡ inner steps) → Located library d inner (item_at path i) r → Located library d parts path r
+  located_deeper : {A : Type 0} (parts inner : Path → Option Part) (path : Path) (i : ℕ) (r : Judged A) → ((steps : Path) → parts (to_item i ∷ steps) ≡ inner steps)
+      → Located library d inner (item_at path i) r → Located library d parts path r
   located_deeper parts inner path i (Ok x) same there = tt
   located_deeper parts inner path i (Err f) same there = deeper parts inner path i f same there
 
@@ -57,12 +71,14 @@ module _ (library : Library) (d : Declared) where
   both_stand parts path [] ys first second = second
   both_stand parts path (x ∷ xs) ys (here, first) second = (here, both_stand parts path xs ys first second)
 
-  stand_deeper : (parts inner : Path → Option Part) (path : Path) (i : ℕ) (fs : List Finding) → ((steps : Path) → parts (to_item i ∷ steps) ≡ inner steps) → AllStand inner (item_at path i) fs → AllStand parts path fs
+  stand_deeper : (parts inner : Path → Option Part) (path : Path) (i : ℕ) (fs : List Finding) → ((steps : Path) → parts (to_item i ∷ steps) ≡ inner steps)
+      → AllStand inner (item_at path i) fs → AllStand parts path fs
   stand_deeper parts inner path i [] same there = tt
   stand_deeper parts inner path i (f ∷ fs) same (here, there) = (deeper parts inner path i f same here, stand_deeper parts inner path i fs same there)
 
   -- the part at the path itself
-  here : (parts : Path → Option Part) (path : Path) (reason : Reason) (part : Part) → parts [] ≡ Some part → IsRefused library d part reason → Located {A = ⊤} library d parts path (refused path reason)
+  here : (parts : Path → Option Part) (path : Path) (reason : Reason) (part : Part) → parts [] ≡ Some part → IsRefused library d part reason
+      → Located {A = ⊤} library d parts path (refused path reason)
   here parts path reason part found fails = ([], part, sym (append-nil path), found, fails)
 
   -- ---- expressions
@@ -83,22 +99,27 @@ module _ (library : Library) (d : Declared) where
   abbrev ExpressionLocated : Scope → Path → Expression → Type 0
   ExpressionLocated scope path e = Located library d (In scope e) path (expression_check library d scope path e)
 
-  operand_located : (scope : Scope) (path : Path) (k : Kind) (e : Expression) → ExpressionLocated scope path e → Located library d (In scope e) path (operand_sort k path (expression_check library d scope path e))
+  operand_located : (scope : Scope) (path : Path) (k : Kind) (e : Expression) → ExpressionLocated scope path e
+      → Located library d (In scope e) path (operand_sort k path (expression_check library d scope path e))
   unfolding operand_sort
   operand_located scope path k e there =
       located_then (In scope e) path (expression_check library d scope path e) (λ s. suits k path s >>= λ _. Ok (only k)) there
       (λ s is. located_then (In scope e) path (suits k path s) (λ _. Ok (only k)) (suits_located scope path k s e (sort_is scope path e s is)) (λ _ _. tt))
 
-  operands_located : (scope : Scope) (path : Path) (k : Kind) (e a b : Expression) → ((steps : Path) → In scope e (to_item 1 ∷ steps) ≡ In scope a steps) → ((steps : Path) → In scope e (to_item 2 ∷ steps) ≡ In scope b steps)
+  operands_located : (scope : Scope) (path : Path) (k : Kind) (e a b : Expression) → ((steps : Path) → In scope e (to_item 1 ∷ steps) ≡ In scope a steps)
+      → ((steps : Path) → In scope e (to_item 2 ∷ steps) ≡ In scope b steps)
       → ExpressionLocated scope (item_at path 1) a → ExpressionLocated scope (item_at path 2) b
       → Located library d (In scope e) path (operands_sort k path (expression_check library d scope (item_at path 1) a) (expression_check library d scope (item_at path 2) b))
   unfolding operands_sort
   operands_located scope path k e a b first second left right =
-      located_then (In scope e) path (operand_sort k (item_at path 1) (expression_check library d scope (item_at path 1) a)) (λ _. operand_sort k (item_at path 2) (expression_check library d scope (item_at path 2) b))
+      located_then (In scope e) path (operand_sort k (item_at path 1) (expression_check library d scope (item_at path 1) a))
+      (λ _. operand_sort k (item_at path 2) (expression_check library d scope (item_at path 2) b))
       (located_deeper (In scope e) (In scope a) path 1 (operand_sort k (item_at path 1) (expression_check library d scope (item_at path 1) a)) first (operand_located scope (item_at path 1) k a left))
-      (λ _ _. located_deeper (In scope e) (In scope b) path 2 (operand_sort k (item_at path 2) (expression_check library d scope (item_at path 2) b)) second (operand_located scope (item_at path 2) k b right))
+      (λ _ _. located_deeper (In scope e) (In scope b) path 2 (operand_sort k (item_at path 2) (expression_check library d scope (item_at path 2) b))
+      second (operand_located scope (item_at path 2) k b right))
 
-  left_refused : (scope : Scope) (path : Path) (e a : Expression) (w : Wanted) (s : Sort) → ((steps : Path) → In scope e (to_item 1 ∷ steps) ≡ In scope a steps) → sort_of library d scope a ≡ Some s → is_wanted w s ≡ false
+  left_refused : (scope : Scope) (path : Path) (e a : Expression) (w : Wanted) (s : Sort) → ((steps : Path) → In scope e (to_item 1 ∷ steps) ≡ In scope a steps)
+      → sort_of library d scope a ≡ Some s → is_wanted w s ≡ false
       → Located {A = ⊤} library d (In scope e) path (refused (item_at path 1) (F.unsuited w s))
   left_refused scope path e a w s first is fails =
       located_deeper {A = ⊤} (In scope e) (In scope a) path 1 (refused (item_at path 1) (F.unsuited w s)) first
@@ -108,7 +129,8 @@ module _ (library : Library) (d : Declared) where
       → Located library d (In scope e) path (suits k (item_at path 2) t)
   right_located scope path e b k t second is = located_deeper (In scope e) (In scope b) path 2 (suits k (item_at path 2) t) second (suits_located scope (item_at path 2) k t b is)
 
-  module _ (scope : Scope) (path : Path) (e a b : Expression) (first : (steps : Path) → In scope e (to_item 1 ∷ steps) ≡ In scope a steps) (second : (steps : Path) → In scope e (to_item 2 ∷ steps) ≡ In scope b steps) where
+  module _ (scope : Scope) (path : Path) (e a b : Expression) (first : (steps : Path) → In scope e (to_item 1 ∷ steps) ≡ In scope a steps) (second : (steps : Path)
+      → In scope e (to_item 2 ∷ steps) ≡ In scope b steps) where
     alike_located : (s t : Sort) → sort_of library d scope a ≡ Some s → sort_of library d scope b ≡ Some t → Located library d (In scope e) path (alike_check path s t)
     alike_located any t left right = left_refused scope path e a F.of_known_kind any first left refl
     alike_located (only k) t left right = right_located scope path e b k t second right
@@ -131,7 +153,8 @@ module _ (library : Library) (d : Declared) where
         → Located library d (In scope e) path (comparison_sort op path (expression_check library d scope (item_at path 1) a) (expression_check library d scope (item_at path 2) b))
     unfolding comparison_sort
     comparison_located op left right =
-        located_then (In scope e) path (expression_check library d scope (item_at path 1) a) (λ s. expression_check library d scope (item_at path 2) b >>= λ t. comparable_check op path s t >>= λ _. Ok (only boolean_kind))
+        located_then (In scope e) path (expression_check library d scope (item_at path 1) a)
+        (λ s. expression_check library d scope (item_at path 2) b >>= λ t. comparable_check op path s t >>= λ _. Ok (only boolean_kind))
         (located_deeper (In scope e) (In scope a) path 1 (expression_check library d scope (item_at path 1) a) first left)
         (λ s is. located_then (In scope e) path (expression_check library d scope (item_at path 2) b) (λ t. comparable_check op path s t >>= λ _. Ok (only boolean_kind))
         (located_deeper (In scope e) (In scope b) path 2 (expression_check library d scope (item_at path 2) b) second right)
@@ -185,7 +208,8 @@ module _ (library : Library) (d : Declared) where
       → Located library d (InAggregate scope a) path (kind_check library d inner boolean_kind (item_at path 3) predicate >>= λ _. later)
   rows_located scope path a inner predicate later third there =
       located_then (InAggregate scope a) path (kind_check library d inner boolean_kind (item_at path 3) predicate) (λ _. later)
-      (located_deeper (InAggregate scope a) (In inner predicate) path 3 (kind_check library d inner boolean_kind (item_at path 3) predicate) third (kind_located inner (item_at path 3) boolean_kind predicate)) (λ _ _. there)
+      (located_deeper (InAggregate scope a) (In inner predicate) path 3 (kind_check library d inner boolean_kind (item_at path 3) predicate) third
+      (kind_located inner (item_at path 3) boolean_kind predicate)) (λ _ _. there)
 
   count_located : (scope : Scope) (path : Path) (x : Name) (class : ℕ) (predicate : Expression)
       → Located library d (InAggregate scope (count_over x class predicate)) path (count_check library d scope path x class predicate)
@@ -210,7 +234,8 @@ module _ (library : Library) (d : Declared) where
   order_located scope path e (only text_kind) is = tt
 
   extreme_located : (scope : Scope) (path : Path) (a : Aggregate) (x : Name) (class : ℕ) (predicate term : Expression)
-      → ((steps : Path) → InAggregate scope a (to_item 3 ∷ steps) ≡ In (with_name x class scope) predicate steps) → ((steps : Path) → InAggregate scope a (to_item 4 ∷ steps) ≡ In (with_name x class scope) term steps)
+      → ((steps : Path) → InAggregate scope a (to_item 3 ∷ steps) ≡ In (with_name x class scope) predicate steps)
+      → ((steps : Path) → InAggregate scope a (to_item 4 ∷ steps) ≡ In (with_name x class scope) term steps)
       → Located library d (InAggregate scope a) path (extreme_check library d scope path x class predicate term)
   unfolding extreme_check
   extreme_located scope path a x class predicate term third fourth =
@@ -220,7 +245,8 @@ module _ (library : Library) (d : Declared) where
       (located_then (InAggregate scope a) path sorted (λ s. is_ordered (item_at path 4) s >>= λ _. Ok s)
       (located_deeper (InAggregate scope a) (In inner term) path 4 sorted fourth (expression_located inner (item_at path 4) term))
       (λ s is. located_then (InAggregate scope a) path (is_ordered (item_at path 4) s) (λ _. Ok s)
-      (located_deeper (InAggregate scope a) (In inner term) path 4 (is_ordered (item_at path 4) s) fourth (order_located inner (item_at path 4) term s (sort_is inner (item_at path 4) term s is))) (λ _ _. tt)))
+      (located_deeper (InAggregate scope a) (In inner term) path 4 (is_ordered (item_at path 4) s) fourth
+      (order_located inner (item_at path 4) term s (sort_is inner (item_at path 4) term s is))) (λ _ _. tt)))
 
   aggregate_located : (scope : Scope) (path : Path) (a : Aggregate) → Located library d (InAggregate scope a) path (aggregate_check library d scope path a)
   aggregate_located scope path (count_over x class predicate) = count_located scope path x class predicate
@@ -244,7 +270,8 @@ module _ (library : Library) (d : Declared) where
 
   -- ---- statements
 
-  pair_located : (scope : Scope) (fields : List Field) (path : Path) (a : Assignment) → Located library d (λ steps. part_in_pair scope fields steps a) path (assignment_check library d scope fields path a)
+  pair_located : (scope : Scope) (fields : List Field) (path : Path) (a : Assignment)
+      → Located library d (λ steps. part_in_pair scope fields steps a) path (assignment_check library d scope fields path a)
   unfolding assignment_check
   pair_located scope fields path a = by (kind_in fields a.field) refl (λ k. kind_located scope (item_at path 1) k a.value)
     where
@@ -278,7 +305,8 @@ module _ (library : Library) (d : Declared) where
       found_stand parts path check (located_deeper parts (In scope e) path i check same (kind_located scope (item_at path i) k e))
 
   update_stand : (scope : Scope) (queries : List (Name × ℕ)) (path : Path) (s : Statement) (class : ℕ) (key : Expression) (pairs : List Assignment)
-      → ((steps : Path) → At scope queries s (to_item 2 ∷ steps) ≡ In scope key steps) → ((steps : Path) → At scope queries s (to_item 3 ∷ steps) ≡ part_in_pairs scope (class_at library class).fields steps pairs)
+      → ((steps : Path) → At scope queries s (to_item 2 ∷ steps) ≡ In scope key steps)
+      → ((steps : Path) → At scope queries s (to_item 3 ∷ steps) ≡ part_in_pairs scope (class_at library class).fields steps pairs)
       → AllStand (At scope queries s) path (update_findings library d scope path class key pairs)
   update_stand scope queries path s class key pairs at_key at_pairs =
       let fields = (class_at library class).fields in
@@ -308,7 +336,8 @@ module _ (library : Library) (d : Declared) where
   argument_located : (scope : Scope) (path : Path) (demand : Option Sort) (e : Expression) → Located library d (In scope e) path (argument_check library d scope demand path e)
   unfolding argument_check
   argument_located scope path demand e =
-      located_then (In scope e) path (expression_check library d scope path e) (demanded demand path) (expression_located scope path e) (λ s is. demand_located scope path e demand s (sort_is scope path e s is))
+      located_then (In scope e) path (expression_check library d scope path e) (demanded demand path) (expression_located scope path e)
+      (λ s is. demand_located scope path e demand s (sort_is scope path e s is))
 
   -- where something is found later, something is found
   found_later : {A : Type 0} (xs ys : List A) → finds_nothing ys ≡ false → finds_nothing (xs ++ ys) ≡ false
@@ -319,7 +348,8 @@ module _ (library : Library) (d : Declared) where
       → (finds_nothing (arguments_findings library d scope path i ss es) ≡ false → K.statement_kinded library d scope queries (signal name whole) ≡ false)
       → AllStand (At scope queries (signal name whole)) path (arguments_findings library d scope path i ss es)
   arguments_stand scope queries path name whole i [] [] is fails = tt
-  arguments_stand scope queries path name whole i (s ∷ ss) [] is fails = (here (At scope queries (signal name whole)) path F.too_few_arguments (statement_part scope queries (signal name whole)) refl (fails refl), tt)
+  arguments_stand scope queries path name whole i (s ∷ ss) [] is fails =
+      (here (At scope queries (signal name whole)) path F.too_few_arguments (statement_part scope queries (signal name whole)) refl (fails refl), tt)
   arguments_stand scope queries path name whole i ss (e ∷ es) is fails =
       let parts : Path → Option Part = At scope queries (signal name whole) in
       let check = argument_check library d scope (next_demand ss) (item_at (item_at path 2) i) e in
@@ -348,7 +378,8 @@ module _ (library : Library) (d : Declared) where
   unfolding value_check
   value_located scope path a = located_then (InAggregate scope a) path (aggregate_check library d scope path a) (λ _. Ok tt) (aggregate_located scope path a) (λ _ _. tt)
 
-  query_located : (scope : Scope) (queries : List (Name × ℕ)) (path : Path) (x : Name) (body : Body) → Located library d (At scope queries (for_answer x body)) path (query_known (item_at path 1) (lookup (bytes_eq x) queries))
+  query_located : (scope : Scope) (queries : List (Name × ℕ)) (path : Path) (x : Name) (body : Body)
+      → Located library d (At scope queries (for_answer x body)) path (query_known (item_at path 1) (lookup (bytes_eq x) queries))
   query_located scope queries path x body = by (lookup (bytes_eq x) queries) refl
     where
       by : (o : Option ℕ) → lookup (bytes_eq x) queries ≡ o → Located library d (At scope queries (for_answer x body)) path (query_known (item_at path 1) o)
@@ -397,35 +428,45 @@ module _ (library : Library) (d : Declared) where
     inner_stand scope queries path (when e a b) =
         let parts : Path → Option Part = At scope queries (when e a b) in
         both_stand parts path (body_findings library d scope queries (item_at path 2) 0 a) (body_findings library d scope queries (item_at path 3) 0 b)
-        (stand_deeper parts (AtBody scope queries a) path 2 (body_findings library d scope queries (item_at path 2) 0 a) (λ steps. refl) (body_stand scope queries (item_at path 2) a 0 a (from_start a)))
-        (stand_deeper parts (AtBody scope queries b) path 3 (body_findings library d scope queries (item_at path 3) 0 b) (λ steps. refl) (body_stand scope queries (item_at path 3) b 0 b (from_start b)))
+        (stand_deeper parts (AtBody scope queries a) path 2 (body_findings library d scope queries (item_at path 2) 0 a) (λ steps. refl)
+        (body_stand scope queries (item_at path 2) a 0 a (from_start a)))
+        (stand_deeper parts (AtBody scope queries b) path 3 (body_findings library d scope queries (item_at path 3) 0 b) (λ steps. refl)
+        (body_stand scope queries (item_at path 3) b 0 b (from_start b)))
     inner_stand scope queries path (each x class predicate body) =
         let inner = with_name x class scope in
-        stand_deeper (At scope queries (each x class predicate body)) (AtBody inner queries body) path 4 (body_findings library d inner queries (item_at path 4) 0 body) (λ steps. refl) (body_stand inner queries (item_at path 4) body 0 body (from_start body))
+        stand_deeper (At scope queries (each x class predicate body)) (AtBody inner queries body) path 4 (body_findings library d inner queries (item_at path 4) 0 body)
+        (λ steps. refl) (body_stand inner queries (item_at path 4) body 0 body (from_start body))
     inner_stand scope queries path (for_answer x body) =
         let inner = with_name x (unwrap_or (lookup (bytes_eq x) queries) 0) scope in
-        stand_deeper (At scope queries (for_answer x body)) (AtBody inner queries body) path 2 (body_findings library d inner queries (item_at path 2) 0 body) (λ steps. refl) (body_stand inner queries (item_at path 2) body 0 body (from_start body))
+        stand_deeper (At scope queries (for_answer x body)) (AtBody inner queries body) path 2 (body_findings library d inner queries (item_at path 2) 0 body)
+        (λ steps. refl) (body_stand inner queries (item_at path 2) body 0 body (from_start body))
     inner_stand scope queries path (with_object x class key body) =
         let inner = with_name x class scope in
-        stand_deeper (At scope queries (with_object x class key body)) (AtBody inner queries body) path 4 (body_findings library d inner queries (item_at path 4) 0 body) (λ steps. refl) (body_stand inner queries (item_at path 4) body 0 body (from_start body))
+        stand_deeper (At scope queries (with_object x class key body)) (AtBody inner queries body) path 4 (body_findings library d inner queries (item_at path 4) 0 body)
+        (λ steps. refl) (body_stand inner queries (item_at path 4) body 0 body (from_start body))
     inner_stand scope queries path (subtransaction a b) =
         let parts : Path → Option Part = At scope queries (subtransaction a b) in
         both_stand parts path (body_findings library d scope queries (item_at path 1) 0 a) (body_findings library d scope queries (item_at path 2) 0 b)
-        (stand_deeper parts (AtBody scope queries a) path 1 (body_findings library d scope queries (item_at path 1) 0 a) (λ steps. refl) (body_stand scope queries (item_at path 1) a 0 a (from_start a)))
-        (stand_deeper parts (AtBody scope queries b) path 2 (body_findings library d scope queries (item_at path 2) 0 b) (λ steps. refl) (body_stand scope queries (item_at path 2) b 0 b (from_start b)))
+        (stand_deeper parts (AtBody scope queries a) path 1 (body_findings library d scope queries (item_at path 1) 0 a) (λ steps. refl)
+        (body_stand scope queries (item_at path 1) a 0 a (from_start a)))
+        (stand_deeper parts (AtBody scope queries b) path 2 (body_findings library d scope queries (item_at path 2) 0 b) (λ steps. refl)
+        (body_stand scope queries (item_at path 2) b 0 b (from_start b)))
     inner_stand scope queries path (let_value x a body) =
         let inner = with_sort x (unwrap_or (aggregate_sort library d scope a) any) scope in
-        stand_deeper (At scope queries (let_value x a body)) (AtBody inner queries body) path 3 (body_findings library d inner queries (item_at path 3) 0 body) (λ steps. refl) (body_stand inner queries (item_at path 3) body 0 body (from_start body))
+        stand_deeper (At scope queries (let_value x a body)) (AtBody inner queries body) path 3 (body_findings library d inner queries (item_at path 3) 0 body)
+        (λ steps. refl) (body_stand inner queries (item_at path 3) body 0 body (from_start body))
     inner_stand scope queries path s = tt
 
-    body_stand : (scope : Scope) (queries : List (Name × ℕ)) (path : Path) (whole : Body) (i : ℕ) (b : Body) → body_from i whole ≡ b → AllStand (AtBody scope queries whole) path (body_findings library d scope queries path i b)
+    body_stand : (scope : Scope) (queries : List (Name × ℕ)) (path : Path) (whole : Body) (i : ℕ) (b : Body) → body_from i whole ≡ b
+        → AllStand (AtBody scope queries whole) path (body_findings library d scope queries path i b)
     body_stand scope queries path whole i empty is = tt
     body_stand scope queries path whole i (s then rest) is =
         let parts : Path → Option Part = AtBody scope queries whole in
         let own = own_findings library d scope queries (item_at path i) s in
         let inner = inner_findings library d scope queries (item_at path i) s in
         let later = body_findings library d scope queries path (suc i) rest in
-        let same : (steps : Path) → parts (to_item i ∷ steps) ≡ At scope queries s steps = λ steps. ap (λ o. along o (λ t. part_in_statement library d scope queries steps t)) (statement_is i whole s rest is) in
+        let same : (steps : Path) → parts (to_item i ∷ steps) ≡ At scope queries s steps =
+        λ steps. ap (λ o. along o (λ t. part_in_statement library d scope queries steps t)) (statement_is i whole s rest is) in
         both_stand parts path own (inner ++ later)
         (stand_deeper parts (At scope queries s) path i own same (own_stand scope queries (item_at path i) s))
         (both_stand parts path inner later
@@ -453,10 +494,12 @@ module _ (library : Library) (d : Declared) where
   entry_located : (scope : Scope) (path : Path) (e : Entry) → Located library d (AtEntry scope e) path (entry_check library d scope path e)
   entry_located scope path (query_entry q) =
       let inner = with_name q.name q.class scope in
-      located_deeper (AtEntry scope (query_entry q)) (In inner q.predicate) path 2 (test_check library d scope (item_at path 2) q) (λ steps. refl) (kind_located inner (item_at path 2) boolean_kind q.predicate)
+      located_deeper (AtEntry scope (query_entry q)) (In inner q.predicate) path 2 (test_check library d scope (item_at path 2) q) (λ steps. refl)
+      (kind_located inner (item_at path 2) boolean_kind q.predicate)
   entry_located scope path (no_entry q) =
       let inner = with_name q.name q.class scope in
-      located_deeper (AtEntry scope (no_entry q)) (In inner q.predicate) path 3 (test_check library d scope (item_at path 3) q) (λ steps. refl) (kind_located inner (item_at path 3) boolean_kind q.predicate)
+      located_deeper (AtEntry scope (no_entry q)) (In inner q.predicate) path 3 (test_check library d scope (item_at path 3) q) (λ steps. refl)
+      (kind_located inner (item_at path 3) boolean_kind q.predicate)
   entry_located scope path (let_entry x a) =
       located_deeper (AtEntry scope (let_entry x a)) (InAggregate scope a) path 2 (value_check library d scope (item_at path 2) a) (λ steps. refl) (value_located scope (item_at path 2) a)
 
@@ -487,7 +530,8 @@ module _ (library : Library) (d : Declared) where
       let asked = entries_findings library d (item_at path 3) (first_scope c) 0 rule.condition in
       let acting = body_findings library d scope queries (item_at path 5) 0 rule.action in
       both_stand parts path asked acting
-      (stand_deeper parts (λ steps. part_in_condition library d c steps rule.condition) path 3 asked (λ steps. refl) (condition_stand c (item_at path 3) rule.condition 0 (first_scope c) rule.condition refl refl))
+      (stand_deeper parts (λ steps. part_in_condition library d c steps rule.condition) path 3 asked (λ steps. refl)
+      (condition_stand c (item_at path 3) rule.condition 0 (first_scope c) rule.condition refl refl))
       (stand_deeper parts (AtBody scope queries rule.action) path 5 acting (λ steps. refl) (body_stand scope queries (item_at path 5) rule.action 0 rule.action (from_start rule.action)))
 
   rules_stand : (path : Path) (n : ℕ) (rules : List Rule) → drop n library.rules ≡ rules → AllStand (part_in_rules library d) path (rules_findings library d path n rules)
@@ -502,15 +546,18 @@ module _ (library : Library) (d : Declared) where
 
 module _ (library : Library) (d : Declared) where
   -- what stands below a path is placed
-  all_placed : (parts whole : Path → Option Part) (path : Path) → ((steps : Path) → whole (path ++ steps) ≡ parts steps) → (fs : List Finding) → AllByRecursion (Stands library d parts path) fs → ArePlaced library d whole fs
+  all_placed : (parts whole : Path → Option Part) (path : Path) → ((steps : Path) → whole (path ++ steps) ≡ parts steps) → (fs : List Finding)
+      → AllByRecursion (Stands library d parts path) fs → ArePlaced library d whole fs
   all_placed parts whole path same [] there = tt
   all_placed parts whole path same (f ∷ fs) ((steps, part, is, found, fails), there) = ((part, ap whole is ∙ same steps ∙ found, fails), all_placed parts whole path same fs there)
 
   pub library_placed : ArePlaced library d (part_in_library library d) (library_findings library d)
-  library_placed = all_placed (part_in_rules library d) (part_in_library library d) (under_root rules_member) (λ steps. refl) (library_findings library d) (rules_stand library d (under_root rules_member) 0 library.rules refl)
+  library_placed = all_placed (part_in_rules library d) (part_in_library library d) (under_root rules_member) (λ steps. refl) (library_findings library d)
+      (rules_stand library d (under_root rules_member) 0 library.rules refl)
 
   pub unit_placed : (unit : Unit) → ArePlaced library d (λ path. part_in_unit library d path unit) (unit_findings library d unit)
   unit_placed (moment t) = tt
   unit_placed (transaction now body) =
-      all_placed (λ steps. part_in_body library d no_scope [] steps body) (λ path. part_in_unit library d path (transaction now body)) [] (λ steps. refl) (body_findings library d no_scope [] [] 0 body)
+      all_placed (λ steps. part_in_body library d no_scope [] steps body) (λ path. part_in_unit library d path (transaction now body)) [] (λ steps. refl)
+      (body_findings library d no_scope [] [] 0 body)
       (body_stand library d no_scope [] [] body 0 body (from_start body))

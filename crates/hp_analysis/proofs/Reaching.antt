@@ -55,7 +55,8 @@ united_length n (false ∷ other) set = united_length (suc n) other set
 pub same_length : (other set : List Bool) → length (united_from 0 other set) ≡ length set
 same_length other set = united_length 0 other set
 
-united_within : (q : List Bool) (k : ℕ) (other set : List Bool) → length q ≡ length set → is_none (outside_from q k other) ≡ true → is_within q set ≡ true → is_within q (united_from k other set) ≡ true
+united_within : (q : List Bool) (k : ℕ) (other set : List Bool) → length q ≡ length set → is_none (outside_from q k other) ≡ true → is_within q set ≡ true
+    → is_within q (united_from k other set) ≡ true
 united_within q k [] set e h i = i
 united_within q k (false ∷ other) set e h i = united_within q (suc k) other set e h i
 united_within q k (true ∷ other) set e h i = by (has q k) refl h (λ j here. united_within q (suc k) other (slice_set set k true) (e ∙ sym (length-set set k true)) j here)
@@ -99,15 +100,18 @@ found_outside set k (first ∷ after) triggered e = by (has set k) (is_within se
     by false b is j later = later j
 
 -- a closed set that has the set has what leads out of that
-found_within : (q set : List Bool) → length q ≡ length set → is_within q set ≡ true → (k : ℕ) (after : List (List Bool)) (triggered : List Bool) → leading_out set k after ≡ Some triggered → leading_out q k after ≡ None → is_within q triggered ≡ true
+found_within : (q set : List Bool) → length q ≡ length set → is_within q set ≡ true → (k : ℕ) (after : List (List Bool)) (triggered : List Bool)
+    → leading_out set k after ≡ Some triggered → leading_out q k after ≡ None → is_within q triggered ≡ true
 found_within q set e h k [] triggered one none = cc
-found_within q set e h k (first ∷ after) triggered one none = by (has set k) (has q k) (is_within set first) (is_within q first) refl refl refl one none (λ i j. found_within q set e h (suc k) after triggered i j)
+found_within q set e h k (first ∷ after) triggered one none = by (has set k) (has q k) (is_within set first) (is_within q first) refl refl refl one none
+    (λ i j. found_within q set e h (suc k) after triggered i j)
   where
     closed : has set k ≡ true → has q k ≡ true
     closed is = let same : 0 + k ≡ k = omega arith in ap (has q) (sym same) ∙ inside q 0 set k (omega (arith, e)) h is
 
     by : (a b c d : Bool) → has set k ≡ a → has q k ≡ b → is_within q first ≡ d → (if (a && not c) then Some first else leading_out set (suc k) after) ≡ Some triggered
-        → (if (b && not d) then Some first else leading_out q (suc k) after) ≡ None → (leading_out set (suc k) after ≡ Some triggered → leading_out q (suc k) after ≡ None → is_within q triggered ≡ true) → is_within q triggered ≡ true
+        → (if (b && not d) then Some first else leading_out q (suc k) after) ≡ None
+        → (leading_out set (suc k) after ≡ Some triggered → leading_out q (suc k) after ≡ None → is_within q triggered ≡ true) → is_within q triggered ≡ true
     by true true true true is_a is_b is_d i j later = later i j
     by true true false true is_a is_b is_d i j later = let same : first ≡ triggered = cc in ap (is_within q) (sym same) ∙ is_d
     by a true c false is_a is_b is_d i j later = cc
@@ -115,7 +119,8 @@ found_within q set e h k (first ∷ after) triggered one none = by (has set k) (
     by false true c true is_a is_b is_d i j later = later i j
     by false false c d is_a is_b is_d i j later = later i j
 
-pub least_stays : (q set : List Bool) (after : List (List Bool)) (triggered : List Bool) → length q ≡ length set → is_within q set ≡ true → leading_out set 0 after ≡ Some triggered → leading_out q 0 after ≡ None
+pub least_stays : (q set : List Bool) (after : List (List Bool)) (triggered : List Bool) → length q ≡ length set → is_within q set ≡ true
+    → leading_out set 0 after ≡ Some triggered → leading_out q 0 after ≡ None
     → is_within q (united_from 0 triggered set) ≡ true
 least_stays q set after triggered e h one none = united_within q 0 triggered set e (found_within q set e h 0 after triggered one none) h
 
@@ -194,13 +199,15 @@ module _ (library : Library) (set : List Bool) (count : length set ≡ length (n
       rest true j = cc
       rest false j = j
 
-  pub all_closed : (leads : Rule → List ℕ) → leads no_rule ≡ [] → leading_out set 0 (map (led leads) library.rules) ≡ None → (n : ℕ) → has set n ≡ true → list_all (has set) (leads (rule_at library n)) ≡ true
+  pub all_closed : (leads : Rule → List ℕ) → leads no_rule ≡ [] → leading_out set 0 (map (led leads) library.rules) ≡ None → (n : ℕ) → has set n ≡ true
+      → list_all (has set) (leads (rule_at library n)) ≡ true
   all_closed leads none e n h = let same : 0 + n ≡ n = omega arith in closed_at leads none 0 library.rules n e (ap (has set) same ∙ h)
 
   is_closed : IsClosedSet library set → IsClosed library (has set)
   is_closed e = all_closed (rule_triggers library) refl e
 
-  pub gathered_each : (of_unit : Unit → List ℕ) (us : List Unit) (s : List Bool) → length set ≡ length s → is_within set (gathered of_unit us s) ≡ (list_all (λ u. list_all (has set) (of_unit u)) us && is_within set s)
+  pub gathered_each : (of_unit : Unit → List ℕ) (us : List Unit) (s : List Bool) → length set ≡ length s
+      → is_within set (gathered of_unit us s) ≡ (list_all (λ u. list_all (has set) (of_unit u)) us && is_within set s)
   gathered_each of_unit [] s e = refl
   gathered_each of_unit (u ∷ us) s e =
       gathered_each of_unit us (marked (of_unit u) s) (e ∙ sym (marked_length (of_unit u) s))
@@ -246,10 +253,13 @@ module _ (after : List (List Bool)) (P : List Bool → Type 0) (stays : (set tri
       by : (o : Option (List Bool)) → leading_out set 0 after ≡ o → (leading_out set 0 after ≡ None) × P set
       by None is = (is, h)
       by (Some triggered) is = let less = fewer set after triggered is in absurd (omega (arith, few, less))
-  closed_and_kept (suc steps) set few h = by (leading_out set 0 after) refl (λ triggered is. closed_and_kept steps (united_from 0 triggered set) (let less = fewer set after triggered is in omega (arith, few, less)) (stays set triggered is h))
+  closed_and_kept (suc steps) set few h =
+      by (leading_out set 0 after) refl (λ triggered is. closed_and_kept steps (united_from 0 triggered set) (let less = fewer set after triggered is in omega (arith, few, less))
+      (stays set triggered is h))
     where
       by : (o : Option (List Bool)) → leading_out set 0 after ≡ o
-          → ((triggered : List Bool) → leading_out set 0 after ≡ Some triggered → (leading_out (closure steps after (united_from 0 triggered set)) 0 after ≡ None) × P (closure steps after (united_from 0 triggered set)))
+          → ((triggered : List Bool) → leading_out set 0 after ≡ Some triggered → (leading_out (closure steps after (united_from 0 triggered set)) 0 after ≡ None)
+          × P (closure steps after (united_from 0 triggered set)))
           → (leading_out (option_map_or (λ t. closure steps after (united_from 0 t set)) o set) 0 after ≡ None) × P (option_map_or (λ t. closure steps after (united_from 0 t set)) o set)
       by None is next = (is, h)
       by (Some triggered) is next = next triggered is
@@ -268,15 +278,18 @@ closure_same after (suc m) zero set low high = by (leading_out set 0 after) refl
     by None is = refl
     by (Some triggered) is = let less = fewer set after triggered is in absurd (omega (arith, high, less))
 closure_same after (suc m) (suc n) set low high =
-    by (leading_out set 0 after) refl (λ triggered is. let less = fewer set after triggered is in closure_same after m n (united_from 0 triggered set) (omega (arith, low, less)) (omega (arith, high, less)))
+    by (leading_out set 0 after) refl (λ triggered is. let less = fewer set after triggered is in closure_same after m n (united_from 0 triggered set)
+    (omega (arith, low, less)) (omega (arith, high, less)))
   where
-    by : (o : Option (List Bool)) → leading_out set 0 after ≡ o → ((triggered : List Bool) → leading_out set 0 after ≡ Some triggered → closure m after (united_from 0 triggered set) ≡ closure n after (united_from 0 triggered set))
+    by : (o : Option (List Bool)) → leading_out set 0 after ≡ o → ((triggered : List Bool) → leading_out set 0 after ≡ Some triggered
+        → closure m after (united_from 0 triggered set) ≡ closure n after (united_from 0 triggered set))
         → option_map_or (λ t. closure m after (united_from 0 t set)) o set ≡ option_map_or (λ t. closure n after (united_from 0 t set)) o set
     by None is next = refl
     by (Some triggered) is next = next triggered is
 
 -- one step, and no step
-pub closure_more : (after : List (List Bool)) (set triggered : List Bool) → leading_out set 0 after ≡ Some triggered → closure (length set) after set ≡ closure (length set) after (united_from 0 triggered set)
+pub closure_more : (after : List (List Bool)) (set triggered : List Bool) → leading_out set 0 after ≡ Some triggered
+    → closure (length set) after set ≡ closure (length set) after (united_from 0 triggered set)
 closure_more after set triggered is =
     let less = fewer set after triggered is in
     let few = missing_length set in
@@ -291,7 +304,8 @@ closure_ends after (suc steps) set is = ap (λ o. option_map_or (λ t. closure s
 abbrev pub LeadsTo : (after : List (List Bool)) → (start set : List Bool) → Type 0
 LeadsTo after start set = closure (length set) after set ≡ closure (length start) after start
 
-pub goes_on : (after : List (List Bool)) (start set triggered more : List Bool) → leading_out set 0 after ≡ Some triggered → more ≡ united_from 0 triggered set → LeadsTo after start set → LeadsTo after start more
+pub goes_on : (after : List (List Bool)) (start set triggered more : List Bool) → leading_out set 0 after ≡ Some triggered → more ≡ united_from 0 triggered set
+    → LeadsTo after start set → LeadsTo after start more
 goes_on after start set triggered more one is h =
     let count : length more ≡ length set = ap length is ∙ same_length triggered set in
     ap (λ n. closure n after more) count ∙ ap (closure (length set) after) is ∙ sym (closure_more after set triggered one) ∙ h
@@ -300,21 +314,24 @@ pub ends : (after : List (List Bool)) (start set : List Bool) → leading_out se
 ends after start set none h = sym (closure_ends after (length set) set none) ∙ h
 
 -- from what a function finds for each unit
-pub spread_is : (library : Library) (after : List (List Bool)) (of_unit : Unit → List ℕ) (us : List Unit) (set new : List Bool) → set ≡ gathered of_unit us (no_rules library) → new ≡ closure (length set) after set
+pub spread_is : (library : Library) (after : List (List Bool)) (of_unit : Unit → List ℕ) (us : List Unit) (set new : List Bool) → set ≡ gathered of_unit us (no_rules library)
+    → new ≡ closure (length set) after set
     → new ≡ closure (length library.rules) after (gathered of_unit us (no_rules library))
 spread_is library after of_unit us set new is ends_so =
     let count : length set ≡ length library.rules = ap length is ∙ gathered_length of_unit us (no_rules library) ∙ length-map library.rules (λ (r : Rule). false) in
     ends_so ∙ ap (λ n. closure n after set) count ∙ ap (closure (length library.rules) after) is
 
 -- it is closed, and has all of that
-pub spread_closed : (library : Library) (after : List (List Bool)) (of_unit : Unit → List ℕ) (us : List Unit) → let set = closure (length library.rules) after (gathered of_unit us (no_rules library)) in
+pub spread_closed : (library : Library) (after : List (List Bool)) (of_unit : Unit → List ℕ) (us : List Unit)
+    → let set = closure (length library.rules) after (gathered of_unit us (no_rules library)) in
     (leading_out set 0 after ≡ None) × ((length set ≡ length (no_rules library)) × (is_within set (gathered of_unit us (no_rules library)) ≡ true))
 spread_closed library after of_unit us =
     let start = gathered of_unit us (no_rules library) in
     let count = gathered_length of_unit us (no_rules library) in
     let few = missing_length start in
     let rules : length (no_rules library) ≡ length library.rules = length-map library.rules (λ (r : Rule). false) in
-    closed_and_kept after (λ set. (length set ≡ length (no_rules library)) × (is_within set start ≡ true)) (λ set triggered is h. (same_length triggered set ∙ h.0, begun_stays set triggered start h.1)) (length library.rules) start
+    closed_and_kept after (λ set. (length set ≡ length (no_rules library)) × (is_within set start ≡ true))
+    (λ set triggered is h. (same_length triggered set ∙ h.0, begun_stays set triggered start h.1)) (length library.rules) start
     (omega (arith, few, count, rules)) (count, within_itself start)
 
 record IsOnTheWay (library : Library) (units : List Unit) (set : List Bool) : Type 0 where
@@ -322,7 +339,8 @@ record IsOnTheWay (library : Library) (units : List Unit) (set : List Bool) : Ty
   pub begun : HasBegun library units set
   pub least : (other : List Bool) → length other ≡ length set → HasBegun library units other → IsClosedSet library other → is_within other set ≡ true
 
-stays_on : (library : Library) (units : List Unit) (set triggered : List Bool) → leading_out set 0 (map (targets library) library.rules) ≡ Some triggered → IsOnTheWay library units set → IsOnTheWay library units (united_from 0 triggered set)
+stays_on : (library : Library) (units : List Unit) (set triggered : List Bool) → leading_out set 0 (map (targets library) library.rules) ≡ Some triggered
+    → IsOnTheWay library units set → IsOnTheWay library units (united_from 0 triggered set)
 stays_on library units set triggered is h = record {
   count = same_length triggered set ∙ h.count;
   begun = begun_stays set triggered (begun library units (no_rules library)) h.begun;
@@ -346,4 +364,5 @@ unreached_never_fire library units =
     let set = reached library units in
     let h = reached_is_least library units in
     never library set h.count h.closed units
-    (and_parts (list_all (λ u. list_all (has set) (unit_triggers library u)) units) (is_within set (no_rules library)) (sym (gathered_each library set h.count (unit_triggers library) units (no_rules library) h.count) ∙ h.begun)).0
+    (and_parts (list_all (λ u. list_all (has set) (unit_triggers library u)) units) (is_within set (no_rules library))
+    (sym (gathered_each library set h.count (unit_triggers library) units (no_rules library) h.count) ∙ h.begun)).0

@@ -14,22 +14,26 @@ use Rattle.hp_analysis.specs.Kinded.{sort}
 use Rattle.hp_analysis.specs.Declarations.{signatures, sorts_found}
 use Rattle.hp_analysis.specs.declared.kinds.sort.Sort.{Sort}
 
-chosen : (b : Bool) (v : Vec Sort) (found : Option (List K.Sort)) (stored : Option (Vec Sort)) → unwrap_or found [] ≡ sorts_found stored → unwrap_or (cond b (Some (map sort v.items)) found) [] ≡ sorts_found (cond b (Some v) stored)
+chosen : (b : Bool) (v : Vec Sort) (found : Option (List K.Sort)) (stored : Option (Vec Sort)) → unwrap_or found [] ≡ sorts_found stored
+    → unwrap_or (cond b (Some (map sort v.items)) found) [] ≡ sorts_found (cond b (Some v) stored)
 chosen true v found stored same = refl
 chosen false v found stored same = same
 
-pub found_is : (entries : List (String Global × Vec Sort)) (name : List ℕ) → unwrap_or (lookup (bytes_eq name) (signatures entries)) [] ≡ sorts_found (lookup (is_at (λ k. slice_cmp nat_cmp name (string_bytes k))) entries)
+pub found_is : (entries : List (String Global × Vec Sort)) (name : List ℕ)
+    → unwrap_or (lookup (bytes_eq name) (signatures entries)) [] ≡ sorts_found (lookup (is_at (λ k. slice_cmp nat_cmp name (string_bytes k))) entries)
 found_is [] name = refl
 found_is (e ∷ es) name =
     let stored = lookup (is_at (λ (k : String Global). slice_cmp nat_cmp name (string_bytes k))) es in
     chosen (bytes_eq name (string_bytes e.0)) e.1 (lookup (bytes_eq name) (signatures es)) stored (found_is es name)
     ∙ ap (λ b. sorts_found (cond b (Some e.1) stored)) (sym (is_eq-slice_cmp name (string_bytes e.0)))
 
-pub declared_is : (before after : BTreeMap (String Global) (Vec Sort)) (name : List ℕ) (sorts : Vec Sort) → UpdatesBy string_cmp (λ k. slice_cmp nat_cmp name (string_bytes k)) before after (Some sorts) → (other : List ℕ)
+pub declared_is : (before after : BTreeMap (String Global) (Vec Sort)) (name : List ℕ) (sorts : Vec Sort)
+    → UpdatesBy string_cmp (λ k. slice_cmp nat_cmp name (string_bytes k)) before after (Some sorts) → (other : List ℕ)
     → unwrap_or (lookup (bytes_eq other) (signatures after.entries)) [] ≡ (if bytes_eq name other then map sort sorts.items else unwrap_or (lookup (bytes_eq other) (signatures before.entries)) [])
 declared_is before after name sorts put other =
     found_is after.entries other ∙ ap sorts_found (btree_map_updates_text name before after (Some sorts) put other) ∙ by (bytes_eq name other)
   where
-    by : (b : Bool) → sorts_found (cond b (Some sorts) (lookup (is_at (λ k. slice_cmp nat_cmp other (string_bytes k))) before.entries)) ≡ (if b then map sort sorts.items else unwrap_or (lookup (bytes_eq other) (signatures before.entries)) [])
+    by : (b : Bool) → sorts_found (cond b (Some sorts) (lookup (is_at (λ k. slice_cmp nat_cmp other (string_bytes k))) before.entries))
+        ≡ (if b then map sort sorts.items else unwrap_or (lookup (bytes_eq other) (signatures before.entries)) [])
     by true = refl
     by false = sym (found_is before.entries other)

@@ -64,7 +64,8 @@ none_within other k [] = refl
 none_within other k (r ∷ rs) = none_within other (suc k) rs
 
 -- all rules within a table of all rules
-all_from : (other : List Bool) (k : ℕ) (f : Rule → Bool) (rules : List Rule) → ((i : ℕ) → has other (k + i) ≡ has (map f rules) i) → is_none (outside_from other k (map (λ r. true) rules)) ≡ list_all f rules
+all_from : (other : List Bool) (k : ℕ) (f : Rule → Bool) (rules : List Rule) → ((i : ℕ) → has other (k + i) ≡ has (map f rules) i)
+    → is_none (outside_from other k (map (λ r. true) rules)) ≡ list_all f rules
 all_from other k f [] same = refl
 all_from other k f (r ∷ rs) same =
     let start : k ≡ k + 0 = omega arith in
@@ -100,7 +101,8 @@ none_known [] n low = let none : n < 0 = ltb-true n 0 low in absurd (omega (arit
 none_known (r ∷ rs) zero low = refl
 none_known (r ∷ rs) (suc n) low = let within : suc n < length (r ∷ rs) = ltb-true (suc n) (length (r ∷ rs)) low in none_known rs n (lt-ltb n (length rs) (omega (arith, within)))
 
-no_table : (library : Library) (ns : List ℕ) → list_all (λ n. nat_lt n (length library.rules)) ns ≡ true → list_all (has (within library 0)) ns ≡ list_all (λ n. rule_within library 0 (rule_at library n)) ns
+no_table : (library : Library) (ns : List ℕ) → list_all (λ n. nat_lt n (length library.rules)) ns ≡ true
+    → list_all (has (within library 0)) ns ≡ list_all (λ n. rule_within library 0 (rule_at library n)) ns
 no_table library [] known = refl
 no_table library (n ∷ ns) known = first (nat_lt n (length library.rules)) (list_all (λ m. nat_lt m (length library.rules)) ns) known refl
   where
@@ -108,7 +110,8 @@ no_table library (n ∷ ns) known = first (nat_lt n (length library.rules)) (lis
     first true rest e is = ap (λ b. b && list_all (has (within library 0)) ns) (none_known library.rules n is)
     first false rest e is = cc
 
-any_table : (library : Library) (k : ℕ) (ns : List ℕ) → list_all (λ n. nat_lt n (length library.rules)) ns ≡ true → list_all (has (within library k)) ns ≡ list_all (λ n. rule_within library k (rule_at library n)) ns
+any_table : (library : Library) (k : ℕ) (ns : List ℕ) → list_all (λ n. nat_lt n (length library.rules)) ns ≡ true
+    → list_all (has (within library k)) ns ≡ list_all (λ n. rule_within library k (rule_at library n)) ns
 any_table library zero ns known = no_table library ns known
 any_table library (suc k) ns known = some_table library k ns
 
@@ -128,14 +131,16 @@ of_numbers library k ns =
 pub rule_next : (library : Library) (k : ℕ) (rule : Rule) → knows_targets library rule ≡ true → is_within (within library k) (targets library rule) ≡ rule_within library (suc k) rule
 rule_next library k rule known = of_numbers library k (rule_triggers library rule) ∙ any_table library k (rule_triggers library rule) known
 
-rules_next : (library : Library) (k : ℕ) (rules : List Rule) → list_all (knows_targets library) rules ≡ true → map (λ set. is_within (within library k) set) (map (targets library) rules) ≡ map (rule_within library (suc k)) rules
+rules_next : (library : Library) (k : ℕ) (rules : List Rule) → list_all (knows_targets library) rules ≡ true
+    → map (λ set. is_within (within library k) set) (map (targets library) rules) ≡ map (rule_within library (suc k)) rules
 rules_next library k [] known = refl
 rules_next library k (r ∷ rs) known =
     let parts = and_parts (knows_targets library r) (list_all (knows_targets library) rs) known in
     ap₂ (λ x xs. x ∷ xs) (rule_next library k r parts.0) (rules_next library k rs parts.1)
 
 -- a table leads to that of one more firing
-pub table_next : (library : Library) (k j : ℕ) → suc k ≡ j → list_all (knows_targets library) library.rules ≡ true → map (λ set. is_within (within library k) set) (map (targets library) library.rules) ≡ within library j
+pub table_next : (library : Library) (k j : ℕ) → suc k ≡ j → list_all (knows_targets library) library.rules ≡ true
+    → map (λ set. is_within (within library k) set) (map (targets library) library.rules) ≡ within library j
 table_next library k j next known = rules_next library k library.rules known ∙ ap (within library) next
 
 -- ---- all rules, and the rules of units
@@ -156,7 +161,8 @@ begun_within library k (u ∷ us) set e =
     (within_marked (within library (suc k)) (unit_triggers library u) set e ∙ ap (λ b. b && is_within (within library (suc k)) set) (some_table library k (unit_triggers library u)))
     ∙ swap_and (list_all (unit_within library (suc k)) us) (unit_within library (suc k) u) (is_within (within library (suc k)) set)
 
-pub begun_passes : (library : Library) (us : List Unit) (k : ℕ) → (nat_lt 0 k && is_within (within library k) (begun library us (no_rules library))) ≡ (nat_lt 0 k && script_within k (script library us))
+pub begun_passes : (library : Library) (us : List Unit) (k : ℕ)
+    → (nat_lt 0 k && is_within (within library k) (begun library us (no_rules library))) ≡ (nat_lt 0 k && script_within k (script library us))
 begun_passes library us zero = refl
 begun_passes library us (suc k) =
     ap (λ b. nat_lt 0 (suc k) && b)

@@ -116,7 +116,8 @@ module _ (library : Library) (known : list_all (knows_targets library) library.r
       let same : found.offset ≡ m = omega (arith, at) in
       let member : is_member (targets library (rule_at library n)) m ≡ true = subst (λ i. is_member (targets library (rule_at library n)) i ≡ true) same found.member in
       record {
-        edge = plain (is_among (rule_triggers library (rule_at library n)) m) (sym (ap (λ b. is_among (rule_triggers library (rule_at library n)) m || b) (none_member library.rules m)) ∙ among (rule_triggers library (rule_at library n)) (no_rules library) m member);
+        edge = plain (is_among (rule_triggers library (rule_at library n)) m) (sym (ap (λ b. is_among (rule_triggers library (rule_at library n)) m || b) (none_member library.rules m))
+            ∙ among (rule_triggers library (rule_at library n)) (no_rules library) m member);
         goes_on = lacks (rule_within library more) library.rules m found.outside;
       }
     where
@@ -133,7 +134,8 @@ module _ (library : Library) (known : list_all (knows_targets library) library.r
       stuck : is_within (within library more) (targets library (rule_at library n)) ≡ false
       stuck = rule_next library more (rule_at library n) (known_at library library.rules n known) ∙ h
 
-      joined : (m : ℕ) (edge : is_among (rule_triggers library (rule_at library n)) m ≡ true) (more' : ℕ) → IsPathOf library (chain_from library more' m) → IsPath library n (chain_from library more' m)
+      joined : (m : ℕ) (edge : is_among (rule_triggers library (rule_at library n)) m ≡ true) (more' : ℕ) → IsPathOf library (chain_from library more' m)
+          → IsPath library n (chain_from library more' m)
       joined m edge zero path = (edge, tt)
       joined m edge (suc more') path = (edge, path)
 
@@ -155,7 +157,8 @@ chain_is_path_among library set checked more n h = is_path (with_only set librar
 
 -- ---- steps of the program
 
-pub chain_step : (library : Library) (more less n : ℕ) → more ≡ suc less → chain_from library more n ≡ n ∷ option_map_or (chain_from library less) (outside_from (within library less) 0 (targets library (rule_at library n))) []
+pub chain_step : (library : Library) (more less n : ℕ) → more ≡ suc less
+    → chain_from library more n ≡ n ∷ option_map_or (chain_from library less) (outside_from (within library less) 0 (targets library (rule_at library n))) []
 chain_step library more less n e = ap (λ k. chain_from library k n) e
 
 pub chain_end : (library : Library) (more n : ℕ) → more ≡ 0 → chain_from library more n ≡ n ∷ []
@@ -166,7 +169,8 @@ no_member_outside other k [] = refl
 no_member_outside other k (r ∷ rs) = no_member_outside other (suc k) rs
 
 -- the entry of a rule in the graph, whether the library has the rule or not
-pub entry_found : {A : Type 0} (items : A → List Bool) (library : Library) (after : List A) (rules : List Rule) (n : ℕ) (v : A) → map items after ≡ map (targets library) rules → n < length after → v ≡ slice_index_or after n v
+pub entry_found : {A : Type 0} (items : A → List Bool) (library : Library) (after : List A) (rules : List Rule) (n : ℕ) (v : A) → map items after ≡ map (targets library) rules
+    → n < length after → v ≡ slice_index_or after n v
     → items v ≡ targets library (slice_index_or rules n no_rule)
 entry_found items library [] rules n v e low is = absurd (omega (arith, low))
 entry_found items library (a ∷ after) [] n v e low is = cc
@@ -177,7 +181,8 @@ entry_found items library (a ∷ after) (r ∷ rs) (suc n) v e low is =
     let rest : map items after ≡ map (targets library) rs = cc in
     entry_found items library after rs n v rest (omega (arith, low)) is
 
-pub entry_absent : {A : Type 0} (items : A → List Bool) (library : Library) (table : List Bool) (after : List A) (rules : List Rule) (n : ℕ) → map items after ≡ map (targets library) rules → length after ≤ n
+pub entry_absent : {A : Type 0} (items : A → List Bool) (library : Library) (table : List Bool) (after : List A) (rules : List Rule) (n : ℕ)
+    → map items after ≡ map (targets library) rules → length after ≤ n
     → None ≡ outside_from table 0 (targets library (slice_index_or rules n no_rule))
 entry_absent items library table [] [] n e high = sym (no_member_outside table 0 library.rules)
 entry_absent items library table [] (r ∷ rs) n e high = cc

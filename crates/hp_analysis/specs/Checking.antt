@@ -9,7 +9,8 @@ use Rattle.hp_model.specs.Report.{Bytes, words, line}
 use Rattle.hp_model.specs.Refusals.{Path, to_member, to_item}
 use Rattle.hp_model.specs.Output.{path_text}
 use Rattle.hp_analysis.specs.Depths.{library_depth, script_depth}
-use Rattle.hp_analysis.specs.Findings.{Wanted, of_kind, of_known_kind, of_ordered_kind, Reason, unsuited, no_occurrence, no_such_part, other_form, no_such_field, no_such_argument, too_few_arguments, unset_field, unknown_name, not_fired, finds_nothing}
+use Rattle.hp_analysis.specs.Findings.{Wanted, of_kind, of_known_kind, of_ordered_kind, Reason, unsuited, no_occurrence, no_such_part, other_form, no_such_field, no_such_argument}
+use Rattle.hp_analysis.specs.Findings.{too_few_arguments, unset_field, unknown_name, not_fired, finds_nothing}
 use Rattle.hp_analysis.specs.KindFindings.{KindFinding, kind_findings}
 use Rattle.hp_analysis.specs.Guards.{Opening, by_condition, by_action, opening}
 use Rattle.hp_analysis.specs.Installed.{installed, with_installed}

@@ -5,13 +5,16 @@ use Rattle.std.specs.Prelude.{ℕ, suc, Bool, true, false, ⊤, List, [], ◌∷
 use Rattle.std.specs.Map.{lookup}
 use Rattle.hp_model.specs.Values.{Name, Kind, integer_kind, boolean_kind, text_kind, Field, kind_of, ◌>>=◌}
 use Rattle.hp_model.specs.Events.{Pattern, on_create, on_update, on_delete, on_signal, at_moment, every_moment}
-use Rattle.hp_model.specs.Expressions.{Comparison, equal, unequal, less, at_most, greater, at_least, Expression, constant, arithmetic, negated, inverted, both, either, compared, field_of, key_of, new_field, old_field, key_in, argument, time_of, occurrence_count, value_named, time_now}
+use Rattle.hp_model.specs.Expressions.{Comparison, equal, unequal, less, at_most, greater, at_least, Expression, constant, arithmetic, negated, inverted, both, either, compared}
+use Rattle.hp_model.specs.Expressions.{field_of, key_of, new_field, old_field, key_in, argument, time_of, occurrence_count, value_named, time_now}
 use Rattle.hp_model.specs.Rules.{Query, Aggregate, count_over, sum_over, least_over, greatest_over, next_key, single, Entry, query_entry, no_entry, let_entry}
-use Rattle.hp_model.specs.Rules.{Assignment, Statement, create, update, delete, signal, emit, when, each, for_answer, with_object, subtransaction, let_value, veto_with, fire, Body, empty, ◌then◌, Rule, Library, class_at}
+use Rattle.hp_model.specs.Rules.{Assignment, Statement, create, update, delete, signal, emit, when, each, for_answer, with_object, subtransaction, let_value, veto_with, fire, Body}
+use Rattle.hp_model.specs.Rules.{empty, ◌then◌, Rule, Library, class_at}
 use Rattle.hp_model.specs.Firing.{kind_in}
 use Rattle.hp_model.specs.Cascade.{Unit, transaction, moment}
 use Rattle.hp_model.specs.Refusals.{Path, under_root, item_at}
-use Rattle.hp_model.specs.Kinds.{Sort, only, any, Declared, signature_of, is_fired, Columns, columns_by, Scope, with_name, with_sort, no_scope, is_only, are_ordered, meets, all_assigned, aggregate_sort, with_entries, query_classes}
+use Rattle.hp_model.specs.Kinds.{Sort, only, any, Declared, signature_of, is_fired, Columns, columns_by, Scope, with_name, with_sort, no_scope, is_only, are_ordered, meets}
+use Rattle.hp_model.specs.Kinds.{all_assigned, aggregate_sort, with_entries, query_classes}
 
 -- ---- findings
 

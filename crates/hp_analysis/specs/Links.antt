@@ -131,5 +131,6 @@ IsLink n rule m event l =
 
 -- wherever a firing of a rule may trigger another one there is a link, and it stands there
 abbrev pub LinksStand : Type 0
-LinksStand = (library : Library) (n m : ℕ) (rule next : Rule) → slice_get library.rules n ≡ Some rule → slice_get library.rules m ≡ Some next → IsTrue (list_any (λ t. t == m) (rule_triggers library rule))
+LinksStand = (library : Library) (n m : ℕ) (rule next : Rule) → slice_get library.rules n ≡ Some rule → slice_get library.rules m ≡ Some next
+    → IsTrue (list_any (λ t. t == m) (rule_triggers library rule))
     → (l : Link) × (rule_link library n m ≡ Some l) × IsLink n rule m next.event l

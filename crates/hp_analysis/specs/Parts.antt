@@ -5,11 +5,13 @@ use Rattle.std.specs.Map.{lookup}
 use Rattle.hp_model.specs.Values.{Name, integer_kind, boolean_kind, text_kind, Field}
 use Rattle.hp_model.specs.Expressions.{Expression, arithmetic, negated, inverted, both, either, compared}
 use Rattle.hp_model.specs.Rules.{Aggregate, count_over, sum_over, least_over, greatest_over, single, Entry, query_entry, no_entry, let_entry}
-use Rattle.hp_model.specs.Rules.{Assignment, Statement, create, update, delete, signal, emit, when, each, for_answer, with_object, subtransaction, let_value, veto_with, Body, empty, ◌then◌, Rule, Library, class_at}
+use Rattle.hp_model.specs.Rules.{Assignment, Statement, create, update, delete, signal, emit, when, each, for_answer, with_object, subtransaction, let_value, veto_with, Body}
+use Rattle.hp_model.specs.Rules.{empty, ◌then◌, Rule, Library, class_at}
 use Rattle.hp_model.specs.Firing.{kind_in}
 use Rattle.hp_model.specs.Cascade.{Unit, transaction, moment}
 use Rattle.hp_model.specs.Refusals.{to_member, to_item, Path}
-use Rattle.hp_model.specs.Kinds.{Sort, only, any, Declared, is_fired, Columns, columns_by, Scope, with_name, with_sort, no_scope, is_only, all_assigned, aggregate_sort, with_entries, query_classes, sort_of, statement_kinded}
+use Rattle.hp_model.specs.Kinds.{Sort, only, any, Declared, is_fired, Columns, columns_by, Scope, with_name, with_sort, no_scope, is_only, all_assigned, aggregate_sort}
+use Rattle.hp_model.specs.Kinds.{with_entries, query_classes, sort_of, statement_kinded}
 use Rattle.hp_analysis.specs.Findings.{Wanted, of_kind, of_known_kind, of_ordered_kind, Reason, unsuited, Finding, first_scope}
 
 -- ---- parts

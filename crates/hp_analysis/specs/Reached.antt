@@ -52,4 +52,5 @@ ReachedIsLeast = (library : Library) (units : List Unit) → IsReached library u
 -- the units fire no rule outside the set, whatever the state is
 abbrev pub UnreachedNeverFire : Type 0
 UnreachedNeverFire = (library : Library) (units : List Unit)
-    → AllByRecursion (λ u. (S : State) → AllByRecursion (λ (t : Transaction). IsTaskReached (has (reached library units)) t.task × FiresReached (has (reached library units)) t.items) (transactions_of (run_unit library u S))) units
+    → AllByRecursion (λ u. (S : State) → AllByRecursion (λ (t : Transaction). IsTaskReached (has (reached library units)) t.task
+    × FiresReached (has (reached library units)) t.items) (transactions_of (run_unit library u S))) units

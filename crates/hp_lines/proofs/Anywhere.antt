@@ -10,10 +10,18 @@ use Rattle.hp_model.specs.Refusals.{Path, item_at, Limit, Refusal, Decoded, shap
 use Rattle.hp_model.specs.Json.{Form, form_of, pair_of, list_of}
 use Rattle.hp_model.specs.Parts.{name_of, name_at, contains_name, new_name_at, place_of, place_at, integer_at, index_in, index_at, not_below, number_from, list_at, at_most, short_list_at, read_from}
 use Rattle.hp_model.specs.Scopes.{class_names, Scope, fields_of, Names, no_names, taken, Version, Setting, row_setting, value_setting, is_known, row_at, let_at, new_row_at}
-use Rattle.hp_model.specs.ExpressionGrammar.{ExpressionForm, number_form, truth_form, text_form, arithmetic_form, comparison_form, negated_form, inverted_form, both_form, either_form, field_form, key_form, new_form, old_form, key_in_form, argument_form, time_form, count_form, now_form, value_form, expression_form, expression_form_at, field_of_at, key_of_at, new_field_at, old_field_at, key_in_at, argument_at, time_of_at, value_named_at, operands_at, expression_from, expression_within, expression_at}
+use Rattle.hp_model.specs.ExpressionGrammar.{ExpressionForm, number_form, truth_form, text_form, arithmetic_form, comparison_form, negated_form, inverted_form, both_form}
+use Rattle.hp_model.specs.ExpressionGrammar.{either_form, field_form, key_form, new_form, old_form, key_in_form, argument_form, time_form, count_form, now_form, value_form}
+use Rattle.hp_model.specs.ExpressionGrammar.{expression_form, expression_form_at, field_of_at, key_of_at, new_field_at, old_field_at, key_in_at, argument_at, time_of_at}
+use Rattle.hp_model.specs.ExpressionGrammar.{value_named_at, operands_at, expression_from, expression_within, expression_at}
 use Rattle.hp_model.specs.AggregateGrammar as A
-use Rattle.hp_model.specs.AggregateGrammar.{AggregateForm, sum_form, least_form, greatest_form, next_form, aggregate_form, is_aggregate, aggregate_form_at, over_at, terms_at, aggregate_from, single_at, aggregate_at}
-use Rattle.hp_model.specs.StatementGrammar.{assigned_names, assigned_field_at, assignment_at, assignments_at, all_assignments_at, StatementForm, create_form, update_form, delete_form, signal_form, emit_form, if_form, each_form, for_form, with_form, sub_form, abort_form, veto_form, let_form, veto_with_form, rule_form, fire_form, statement_form, is_veto, statement_form_at, create_at, update_at, delete_at, arguments_at, signal_at, emit_at, veto_with_at, on_rule_at, fire_at, Reading, statements_by, if_at, each_at, query_at, for_at, with_at, sub_at, let_value_at, statement_from, statement_within, statements_at}
+use Rattle.hp_model.specs.AggregateGrammar.{AggregateForm, sum_form, least_form, greatest_form, next_form, aggregate_form, is_aggregate, aggregate_form_at, over_at, terms_at}
+use Rattle.hp_model.specs.AggregateGrammar.{aggregate_from, single_at, aggregate_at}
+use Rattle.hp_model.specs.StatementGrammar.{assigned_names, assigned_field_at, assignment_at, assignments_at, all_assignments_at, StatementForm, create_form, update_form}
+use Rattle.hp_model.specs.StatementGrammar.{delete_form, signal_form, emit_form, if_form, each_form, for_form, with_form, sub_form, abort_form, veto_form, let_form, veto_with_form}
+use Rattle.hp_model.specs.StatementGrammar.{rule_form, fire_form, statement_form, is_veto, statement_form_at, create_at, update_at, delete_at, arguments_at, signal_at, emit_at}
+use Rattle.hp_model.specs.StatementGrammar.{veto_with_at, on_rule_at, fire_at, Reading, statements_by, if_at, each_at, query_at, for_at, with_at, sub_at, let_value_at}
+use Rattle.hp_model.specs.StatementGrammar.{statement_from, statement_within, statements_at}
 use Rattle.hp_model.specs.Decode.{Schedule, ItemForm, transaction_form, clock_form, item_form, item_form_at, few_moments, due_moments, transaction_at, clock_at, item_from, unit_at}
 use Rattle.hp_script.specs.Requests.{nothing_since}
 
@@ -142,7 +150,8 @@ expression_any setting d p q = within_any setting 16 d p q
 
 -- ---- aggregates
 
-over_any : (classes : List Name) (setting : Setting) (variable class predicate : Data) (p q : Path) → Carries (over_at classes setting p variable class predicate) (over_at classes setting q variable class predicate)
+over_any : (classes : List Name) (setting : Setting) (variable class predicate : Data) (p q : Path)
+    → Carries (over_at classes setting p variable class predicate) (over_at classes setting q variable class predicate)
 unfolding over_at
 over_any classes setting variable class predicate p q =
     after_it (new_row_any setting.names variable (item_at p 1) (item_at q 1)) λ x.
@@ -179,7 +188,8 @@ assigned_any : (fields assigned : List Name) (d : Data) (p q : Path) → Carries
 unfolding assigned_field_at
 assigned_any fields assigned d p q = after_it (new_name_any assigned d p q) λ x. choose (contains_name fields x) (same _) (refused _ _)
 
-assignment_any : (fields : List Name) (setting : Setting) (before : List Assignment) (d : Data) (p q : Path) → Carries (assignment_at fields setting before p d) (assignment_at fields setting before q d)
+assignment_any : (fields : List Name) (setting : Setting) (before : List Assignment) (d : Data) (p q : Path)
+    → Carries (assignment_at fields setting before p d) (assignment_at fields setting before q d)
 unfolding assignment_at
 assignment_any fields setting before d p q =
     after_it (shaped_any (pair_of d) p q) λ pair.
@@ -286,14 +296,17 @@ goes_value before y = record { on = λ x h. let is : y ≡ x = cc in ap (λ (z :
 item_form_any : (d : Data) (p q : Path) → Carries (item_form_at p d) (item_form_at q d)
 item_form_any d p q = shaped_any (option_and_then (λ (f : Form). item_form f.word f.parts) (form_of d)) p q
 
-item_goes : (version : Version) (rules : List Rule) (scope : Scope) (before : Schedule) (form : ItemForm) (p q : Path) → Goes before (item_from version rules scope p (nothing_since before.clock) form) (item_from version rules scope q before form)
+item_goes : (version : Version) (rules : List Rule) (scope : Scope) (before : Schedule) (form : ItemForm) (p q : Path)
+    → Goes before (item_from version rules scope p (nothing_since before.clock) form) (item_from version rules scope q before form)
 unfolding transaction_at clock_at
-item_goes version rules scope before (transaction_form body) p q = goes_then (statements_any scope (record { version = version; names = no_names }) body (item_at p 1) (item_at q 1)) λ ss. goes_value before _
+item_goes version rules scope before (transaction_form body) p q = goes_then (statements_any scope (record { version = version; names = no_names }) body (item_at p 1) (item_at q 1))
+    λ ss. goes_value before _
 item_goes version rules scope before (clock_form time) p q =
     goes_then (number_any before.clock time (item_at p 1) (item_at q 1)) λ t.
     goes_then (same (few_moments (due_moments rules before.clock t))) λ moments. goes_value before _
 
-unit_goes_on : (version : Version) (rules : List Rule) (scope : Scope) (before : Schedule) (d : Data) (p q : Path) → Goes before (unit_at version rules scope p (nothing_since before.clock) d) (unit_at version rules scope q before d)
+unit_goes_on : (version : Version) (rules : List Rule) (scope : Scope) (before : Schedule) (d : Data) (p q : Path)
+    → Goes before (unit_at version rules scope p (nothing_since before.clock) d) (unit_at version rules scope q before d)
 unfolding unit_at
 unit_goes_on version rules scope before d p q = goes_then (item_form_any d p q) λ form. item_goes version rules scope before form p q
 

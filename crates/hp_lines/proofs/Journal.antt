@@ -1,5 +1,6 @@
 -- That accepted lines are a journal.
-use Rattle.std.proofs.Common.{◌≡◌, ℕ, suc, ◌+◌, nat_lt, Bool, true, false, cond, List, [], ◌∷◌, ◌++◌, length, Option, Some, None, Result, Ok, Err, refl, sym, ap, subst, ◌∙◌, append_assoc, append-nil, arith}
+use Rattle.std.proofs.Common.{◌≡◌, ℕ, suc, ◌+◌, nat_lt, Bool, true, false, cond, List, [], ◌∷◌, ◌++◌, length, Option, Some, None, Result, Ok, Err, refl, sym, ap, subst, ◌∙◌}
+use Rattle.std.proofs.Common.{append_assoc, append-nil, arith}
 use Rattle.std.specs.Prelude.{codes, flat_map}
 use Rattle.std.proofs.lemmas.List.{length-append}
 use Rattle.serde_json.specs.Data.{Data}
@@ -34,12 +35,17 @@ use Rattle.hp_lines.proofs.Pieces.{closed_stage}
 -- ---- units, and then more units
 
 run-append : (library : Library) (us vs : List Unit) (S : State)
-    → run_units library (us ++ vs) S ≡ record { units = (run_units library us S).units ++ (run_units library vs (run_units library us S).state).units; state = (run_units library vs (run_units library us S).state).state }
+    → run_units library (us ++ vs) S ≡ record {
+      units = (run_units library us S).units ++ (run_units library vs (run_units library us S).state).units;
+      state =
+          (run_units library vs (run_units library us S).state).state;
+    }
 run-append library [] vs S = refl
 run-append library (u ∷ us) vs S =
     ap (λ (e : Evaluation). record { units = unit_report u (run_unit library u S) ∷ e.units; state = e.state }) (run-append library us vs (run_unit library u S).state)
 
-text-append : (library : Library) (with_tree : Bool) (n : ℕ) (us vs : List UnitReport) → units_text library with_tree n (us ++ vs) ≡ units_text library with_tree n us ++ units_text library with_tree (n + length us) vs
+text-append : (library : Library) (with_tree : Bool) (n : ℕ) (us vs : List UnitReport) → units_text library with_tree n (us ++ vs) ≡ units_text library with_tree n us
+    ++ units_text library with_tree (n + length us) vs
 text-append library with_tree n [] vs =
     let same : n ≡ n + 0 = omega arith in
     ap (λ m. units_text library with_tree m vs) same
@@ -109,11 +115,13 @@ asks_by version library clock l r (Err fault) is asked = cc
 asks : (is_text : Bool) (version : Version) (library : Library) (clock : ℕ) (l : Line) (r : Request) → request_in is_text version library clock l ≡ Ok r → Asks is_text version library clock l r
 unfolding json_at request_of text_line_checked
 asks false version library clock l r read =
-    let parts = both (json_at l) (request_at version library clock) r (unless_ok (nat_lt 1048576 (length l)) (over_limit size_limit) (json_at l >>= request_at version library clock) r (told_ok refusal_text (request_of version library clock l) r read)) in
+    let parts = both (json_at l) (request_at version library clock) r (unless_ok (nat_lt 1048576 (length l)) (over_limit size_limit) (json_at l >>= request_at version library clock)
+    r (told_ok refusal_text (request_of version library clock l) r read)) in
     record { value = parts.first; value_is = readable_some (json_of l) parts.first parts.is; asked = parts.then_is }
 asks true version library clock l r read =
     asks_by version library clock l r (read_text_line l) refl
-    (unless_ok (nat_lt 1048576 (length l)) too_long (line_checked (request_at version library clock) l (read_text_line l)) r (told_ok placed_refusal_text (text_line_checked (request_at version library clock) l) r read))
+    (unless_ok (nat_lt 1048576 (length l)) too_long (line_checked (request_at version library clock) l (read_text_line l)) r
+    (told_ok placed_refusal_text (text_line_checked (request_at version library clock) l) r read))
 
 -- the value of an accepted item, and what is read of it
 record IsItem (is_text : Bool) (version : Version) (library : Library) (clock : ℕ) (l : Line) (s : Schedule) : Type 0 where
@@ -121,7 +129,8 @@ record IsItem (is_text : Bool) (version : Version) (library : Library) (clock : 
   pub value_is : line_value is_text l ≡ Some value
   pub reads : unit_at version library.rules (library_scope library) [] (nothing_since clock) value ≡ Ok s
 
-item_or_show : (version : Version) (library : Library) (clock : ℕ) (d : Data) (form : Option ShowForm) (s : Schedule) → request_from version library clock d form ≡ Ok (item s) → item_of version library clock d ≡ Ok (item s)
+item_or_show : (version : Version) (library : Library) (clock : ℕ) (d : Data) (form : Option ShowForm) (s : Schedule) → request_from version library clock d form ≡ Ok (item s)
+    → item_of version library clock d ≡ Ok (item s)
 unfolding show_of
 item_or_show version library clock d None s h = h
 item_or_show version library clock d (Some form) s h =
@@ -135,7 +144,8 @@ asked_for s = Ok (item s)
 same_item : (s t : Schedule) (r : Decoded Schedule) → r ≡ Ok s → asked_for s ≡ asked_for t → r ≡ Ok t
 same_item s t r read e = let same : s ≡ t = cc in read ∙ ap (λ (x : Schedule). Ok x) same
 
-item_read : (is_text : Bool) (version : Version) (library : Library) (clock : ℕ) (l : Line) (s : Schedule) → request_in is_text version library clock l ≡ Ok (item s) → IsItem is_text version library clock l s
+item_read : (is_text : Bool) (version : Version) (library : Library) (clock : ℕ) (l : Line) (s : Schedule) → request_in is_text version library clock l ≡ Ok (item s)
+    → IsItem is_text version library clock l s
 unfolding request_at item_of
 item_read is_text version library clock l s read =
     let asking = asks is_text version library clock l (item s) read in
@@ -170,7 +180,11 @@ joined before s = record { units = before.units ++ s.units; clock = s.clock }
 
 -- the units of an item, after those before it
 ran_joined : (S : State) (base : RuleBase) (before s : Schedule) → Leads S before base
-    → run_units base.library (before.units ++ s.units) S ≡ record { units = (run_units base.library before.units S).units ++ (run_units base.library s.units base.state).units; state = (run_units base.library s.units base.state).state }
+    → run_units base.library (before.units ++ s.units) S ≡ record {
+      units = (run_units base.library before.units S).units ++ (run_units base.library s.units base.state).units;
+      state =
+          (run_units base.library s.units base.state).state;
+    }
 ran_joined S base before s leads =
     run-append base.library before.units s.units S
     ∙ ap (λ T. record { units = (run_units base.library before.units S).units ++ (run_units base.library s.units T).units; state = (run_units base.library s.units T).state }) leads.state_is
@@ -188,7 +202,8 @@ leads_joined S base before s leads =
 
 text_joined : (manner : Manner) (S : State) (base : RuleBase) (before s : Schedule) → Leads S before base
     → units_text base.library manner.with_tree 1 (run_units base.library (before.units ++ s.units) S).units
-    ≡ units_text base.library manner.with_tree 1 (run_units base.library before.units S).units ++ units_text base.library manner.with_tree (base.units + 1) (run_units base.library s.units base.state).units
+    ≡ units_text base.library manner.with_tree 1 (run_units base.library before.units S).units ++ units_text base.library manner.with_tree (base.units + 1)
+    (run_units base.library s.units base.state).units
 text_joined manner S base before s leads =
     let old = (run_units base.library before.units S).units in
     let new = (run_units base.library s.units base.state).units in
@@ -201,7 +216,8 @@ text_joined manner S base before s leads =
 step : (manner : Manner) (S : State) (path : Path) (base : RuleBase) (before : Schedule) (i : ℕ) (l : Line) (ls : List Line) (end : RuleBase)
     → ((base : RuleBase) (before : Schedule) (i : ℕ) → Leads S before base → stage_after manner (up base) ls ≡ up end
     → Leads_on manner S path base before i (accepted manner (up base) ls) (accepted_bodies manner (up base) ls) end)
-    → Leads S before base → (r : Result Request Bytes) → request_in manner.is_text base.version base.library base.clock l ≡ r → stage_after manner (later_answer manner.with_tree base r).stage ls ≡ up end
+    → Leads S before base → (r : Result Request Bytes) → request_in manner.is_text base.version base.library base.clock l ≡ r
+    → stage_after manner (later_answer manner.with_tree base r).stage ls ≡ up end
     → Leads_on manner S path base before i (value_if (item_in r) (line_value manner.is_text l) ++ accepted manner (later_answer manner.with_tree base r).stage ls)
     (body_if (item_in r) (later_answer manner.with_tree base r).body ++ accepted_bodies manner (later_answer manner.with_tree base r).stage ls) end
 step manner S path base before i l ls end rest leads (Err e) asked ends = rest base before i leads ends
@@ -256,7 +272,8 @@ record Opening (script : Data) (root : Root) (items : List Data) (t : TimedScrip
   pub units_are : t.script.units ≡ schedule.units
   pub clock_is : t.clock ≡ schedule.clock
 
-listed : (version : Version) (rules : List Rule) (scope : Scope) (path : Path) (d : Data) (ds : List Data) → list_of d ≡ Some ds → units_at version rules scope path d ≡ units_from version rules scope path no_item 0 ds
+listed : (version : Version) (rules : List Rule) (scope : Scope) (path : Path) (d : Data) (ds : List Data) → list_of d ≡ Some ds
+    → units_at version rules scope path d ≡ units_from version rules scope path no_item 0 ds
 unfolding units_at
 listed version rules scope path d ds is = ap (λ o. shaped path o >>= units_from version rules scope path no_item 0) is
 
@@ -291,7 +308,8 @@ opened script root items t version library schedule same is_version is_library a
       clock_is = refl;
     })
 
-opening : (script : Data) (root : Root) (items : List Data) (t : TimedScript) → root_of script ≡ Some root → list_of root.items ≡ Some items → timed_script_at script ≡ Ok t → Opening script root items t
+opening : (script : Data) (root : Root) (items : List Data) (t : TimedScript) → root_of script ≡ Some root → list_of root.items ≡ Some items
+    → timed_script_at script ≡ Ok t → Opening script root items t
 unfolding timed_script_at
 opening script root items t root_is items_are read =
     let of_root = sym (ap (λ o. shaped [] o >>= all_of) root_is) ∙ read in
@@ -324,7 +342,8 @@ journal_read journal root entries version library all is_root is_version is_libr
     ∙ after_ok (units_at version library.rules (library_scope library) (under_root (codes "items")) entries) all (read_timed version library) is_all
 
 -- the script of a text
-first_by : (first : Line) (script : Data) (t : TimedScript) (read : Result T.Script Place) → script_read read ≡ Some script → script_checked timed_script_at first read ≡ Ok t → timed_script_at script ≡ Ok t
+first_by : (first : Line) (script : Data) (t : TimedScript) (read : Result T.Script Place) → script_read read ≡ Some script → script_checked timed_script_at first read ≡ Ok t
+    → timed_script_at script ≡ Ok t
 first_by first script t (Ok s) value read =
     let same : T.script_data s ≡ script = cc in
     sym (ap timed_script_at same) ∙ placed_ok (script_place first s) (timed_script_at (T.script_data s)) t read
@@ -349,7 +368,8 @@ record ReplaysBy (manner : Manner) (r : Result TimedScript Bytes) (later : List 
       ≡ ((opening_answer manner.with_tree r).body ++ accepted_bodies manner (opening_answer manner.with_tree r).stage later) ++ final_text base.library base.state.objects base.state.rules
 
 replayed_by : (manner : Manner) (first : Line) (later : List Line) (journal : Data) (base : RuleBase) (script : Data) (root : Root) (entries : Data) (items : List Data) (r : Result TimedScript Bytes)
-    → timed_script_in manner.is_text first ≡ r → stage_after manner (opening_answer manner.with_tree r).stage later ≡ up base → script_value manner.is_text first ≡ Some script → root_of script ≡ Some root
+    → timed_script_in manner.is_text first ≡ r → stage_after manner (opening_answer manner.with_tree r).stage later ≡ up base → script_value manner.is_text first ≡ Some script
+    → root_of script ≡ Some root
     → root_of journal ≡ Some (with_entries root entries) → list_of root.items ≡ Some items → list_of entries ≡ Some (items ++ accepted manner (opening_answer manner.with_tree r).stage later)
     → ReplaysBy manner r later journal base
 replayed_by manner first later journal base script root entries items (Err e) read ends value is_root is_journal are_items are_entries =
@@ -381,7 +401,8 @@ replayed_by manner first later journal base script root entries items (Ok t) rea
       state_is = on.state_is;
       report_is =
           ap (λ (b : Bytes). b ++ final_text library (run_units library on.all.units S).state.objects (run_units library on.all.units S).state.rules) on.text
-          ∙ ap (λ us. (units_text library manner.with_tree 1 (run_units library us S).units ++ bodies) ++ final_text library (run_units library on.all.units S).state.objects (run_units library on.all.units S).state.rules) (sym o.units_are)
+          ∙ ap (λ us. (units_text library manner.with_tree 1 (run_units library us S).units ++ bodies)
+          ++ final_text library (run_units library on.all.units S).state.objects (run_units library on.all.units S).state.rules) (sym o.units_are)
           ∙ ap (λ (T : State). (units_text library manner.with_tree 1 (run_units library t.script.units S).units ++ bodies) ++ final_text library T.objects T.rules) on.state_is
           ∙ ap (λ l. (units_text library manner.with_tree 1 (run_units library t.script.units S).units ++ bodies) ++ final_text l base.state.objects base.state.rules) (sym on.library_is);
     }
@@ -403,5 +424,15 @@ notation_read text s d script decoded read same =
 
 pub accepted_lines_replay : AcceptedLinesReplay
 accepted_lines_replay manner first later journal base ends j =
-    let by = replayed_by manner first later journal base j.script j.root j.entries j.items (timed_script_in manner.is_text first) refl ends j.first_is j.root_is j.journal_is j.items_are j.entries_are in
-    record { script = by.script; decoded = by.decoded; read_is = λ text value. text_read text journal by.script by.decoded value; text_is = λ text s read same. notation_read text s journal by.script by.decoded read same; library_is = by.library_is; state_is = by.state_is; report_is = by.report_is }
+    let by = replayed_by manner first later journal base j.script j.root j.entries j.items (timed_script_in manner.is_text first) refl ends j.first_is
+    j.root_is j.journal_is j.items_are j.entries_are in
+    record {
+      script = by.script;
+      decoded = by.decoded;
+      read_is = λ text value. text_read text journal by.script by.decoded value;
+      text_is =
+          λ text s read same. notation_read text s journal by.script by.decoded read same;
+      library_is = by.library_is;
+      state_is = by.state_is;
+      report_is = by.report_is;
+    }

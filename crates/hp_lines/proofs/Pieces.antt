@@ -4,14 +4,16 @@ use Rattle.std.proofs.lemmas.Bool.{cases_lt, lt-ltb, le-ltb}
 use Rattle.std.proofs.lemmas.List.{take_all, take-append-le, length-take-le, length-append}
 use Rattle.hp_model.specs.Report.{Bytes}
 use Rattle.hp_lines.specs.Lines.{Line, begun, lines_from, lines_of, kept_with}
-use Rattle.hp_lines.specs.Live.{Manner, Stage, unopened, closed, Answer, answer, answers, stage_after, lines_by, output, Server, reply, answered, grown, byte_output, next, piece_output, after, end_output, input_output, stage_at_end, opening_output, opened_server}
+use Rattle.hp_lines.specs.Live.{Manner, Stage, unopened, closed, Answer, answer, answers, stage_after, lines_by, output, Server, reply, answered, grown, byte_output, next}
+use Rattle.hp_lines.specs.Live.{piece_output, after, end_output, input_output, stage_at_end, opening_output, opened_server}
 use Rattle.hp_lines.proofs.Lines.{kept_answer}
 
 -- ---- pieces
 
 pub output-append : (d : Server) (a b : List ℕ) → piece_output d (a ++ b) ≡ piece_output d a ++ piece_output (after d a) b
 output-append d [] b = refl
-output-append d (x ∷ a) b = ap (λ (l : List ℕ). byte_output d x ++ l) (output-append (next d x) a b) ∙ sym (append_assoc (byte_output d x) (piece_output (next d x) a) (piece_output (after (next d x) a) b))
+output-append d (x ∷ a) b = ap (λ (l : List ℕ). byte_output d x ++ l) (output-append (next d x) a b)
+    ∙ sym (append_assoc (byte_output d x) (piece_output (next d x) a) (piece_output (after (next d x) a) b))
 
 pub after-append : (d : Server) (a b : List ℕ) → after d (a ++ b) ≡ after (after d a) b
 after-append d [] b = refl
@@ -65,7 +67,8 @@ output_of_begun manner stage (x ∷ line) = ap (λ (l : List ℕ). l ++ []) (rep
 by_end : (b : Bool) (manner : Manner) (stage : Stage) (line : Line) (x : ℕ) (xs : List ℕ)
     → (reply (at manner stage line) ++ piece_output (answered (at manner stage line)) xs) ++ end_output (after (answered (at manner stage line)) xs) ≡ answers manner stage (line ∷ lines_from [] xs)
     → input_output (grown (at manner stage line) x) xs ≡ answers manner stage (lines_from (line ++ x ∷ []) xs)
-    → (cond b (reply (at manner stage line)) [] ++ piece_output (cond b (answered (at manner stage line)) (grown (at manner stage line) x)) xs) ++ end_output (after (cond b (answered (at manner stage line)) (grown (at manner stage line) x)) xs)
+    → (cond b (reply (at manner stage line)) [] ++ piece_output (cond b (answered (at manner stage line)) (grown (at manner stage line) x)) xs)
+    ++ end_output (after (cond b (answered (at manner stage line)) (grown (at manner stage line) x)) xs)
     ≡ answers manner stage (cond b (line ∷ lines_from [] xs) (lines_from (line ++ x ∷ []) xs))
 by_end true manner stage line x xs ends goes_on = ends
 by_end false manner stage line x xs ends goes_on = goes_on

@@ -29,8 +29,10 @@ unfolding script_on_literals library_at timed_script_at timed_script_of excerpt_
 shown = refl
 
 -- a class's objects are shown, and one object; a class that the library lacks and a key that is no number are refused
-pub parts_shown : output in_json None (codes "{\"version\":1,\"classes\":[[\"acct\",[[\"bal\",\"int\"]]],[\"mark\",[]]],\"rules\":[],\"items\":[[\"tx\",[[\"create\",\"acct\",2,[[\"bal\",7]]],[\"create\",\"mark\",1,[]],[\"create\",\"acct\",-1,[[\"bal\",5]]]]]]}\n[\"show\",\"acct\"]\n[\"show\",\"acct\",2]\n[\"show\",\"mark\",2]\n[\"show\",\"item\"]\n[\"show\",\"acct\",true]\n[\"show\",\"acct\",1,2]")
-    ≡ lines (codes "unit 1 committed" ∷ codes "ok 1" ∷ codes "object acct -1 bal=5" ∷ codes "object acct 2 bal=7" ∷ codes "ok 1" ∷ codes "object acct 2 bal=7" ∷ codes "ok 1" ∷ codes "ok 1" ∷ codes "refused S4 /1" ∷ codes "refused S2 /2" ∷ codes "refused S2 /" ∷ [])
+pub parts_shown : output in_json None
+    (codes "{\"version\":1,\"classes\":[[\"acct\",[[\"bal\",\"int\"]]],[\"mark\",[]]],\"rules\":[],\"items\":[[\"tx\",[[\"create\",\"acct\",2,[[\"bal\",7]]],[\"create\",\"mark\",1,[]],[\"create\",\"acct\",-1,[[\"bal\",5]]]]]]}\n[\"show\",\"acct\"]\n[\"show\",\"acct\",2]\n[\"show\",\"mark\",2]\n[\"show\",\"item\"]\n[\"show\",\"acct\",true]\n[\"show\",\"acct\",1,2]")
+    ≡ lines (codes "unit 1 committed" ∷ codes "ok 1" ∷ codes "object acct -1 bal=5" ∷ codes "object acct 2 bal=7" ∷ codes "ok 1" ∷ codes "object acct 2 bal=7"
+    ∷ codes "ok 1" ∷ codes "ok 1" ∷ codes "refused S4 /1" ∷ codes "refused S2 /2" ∷ codes "refused S2 /" ∷ [])
 unfolding script_on_literals library_at timed_script_at timed_script_of excerpt_from show_of item_of request_at request_of place_at integer_at
 parts_shown = refl
 
@@ -41,8 +43,10 @@ unfolding script_on_literals library_at timed_script_at timed_script_of item_of 
 clock_goes_on = refl
 
 -- in version 4 a line has the clock's moment, which a line `clock` moves, `let`s, and vetoes with a message
-pub fourth : output in_json None (codes "{\"version\":4,\"classes\":[[\"a\",[]]],\"rules\":[[\"r\",[\"signal\",\"go\"],\"immediate\",[],\"immediate\",[[\"veto\",[\"now\"]]]]],\"items\":[[\"tx\",[[\"install\",\"r\"]]]]}\n[\"clock\",5]\n[\"tx\",[[\"signal\",\"go\",[]]]]\n[\"tx\",[[\"let\",\"k\",[\"next\",\"a\"],[[\"create\",\"a\",[\"value\",\"k\"],[]],[\"emit\",[\"now\"]]]]]]\n[\"show\"]")
-    ≡ lines (codes "unit 1 committed" ∷ codes "ok 1" ∷ codes "ok 1" ∷ codes "unit 2 aborted A9 r 5" ∷ codes "ok 2" ∷ codes "unit 3 committed" ∷ codes "emit 5" ∷ codes "ok 3" ∷ codes "object a 1" ∷ codes "rule r enabled" ∷ codes "ok 3" ∷ [])
+pub fourth : output in_json None
+    (codes "{\"version\":4,\"classes\":[[\"a\",[]]],\"rules\":[[\"r\",[\"signal\",\"go\"],\"immediate\",[],\"immediate\",[[\"veto\",[\"now\"]]]]],\"items\":[[\"tx\",[[\"install\",\"r\"]]]]}\n[\"clock\",5]\n[\"tx\",[[\"signal\",\"go\",[]]]]\n[\"tx\",[[\"let\",\"k\",[\"next\",\"a\"],[[\"create\",\"a\",[\"value\",\"k\"],[]],[\"emit\",[\"now\"]]]]]]\n[\"show\"]")
+    ≡ lines (codes "unit 1 committed" ∷ codes "ok 1" ∷ codes "ok 1" ∷ codes "unit 2 aborted A9 r 5" ∷ codes "ok 2" ∷ codes "unit 3 committed" ∷ codes
+    "emit 5" ∷ codes "ok 3" ∷ codes "object a 1" ∷ codes "rule r enabled" ∷ codes "ok 3" ∷ [])
 unfolding script_on_literals library_at timed_script_at timed_script_of excerpt_from show_of item_of request_at request_of
 fourth = refl
 
@@ -58,8 +62,10 @@ unfolding script_on_literals library_at timed_script_at timed_script_of item_of 
 refused_script = refl
 
 -- lines of text, with the places of refusals
-pub in_notation : output in_text None (codes "version 1 class acct { bal: int } transaction { create acct(1) set bal = 5 }\ntransaction { emit 7 }\ntransaction { emit }\ntransaction { delete mark(1) }\nclock 5\nclock 4\nshow # all\n")
-    ≡ lines (codes "unit 1 committed" ∷ codes "ok 1" ∷ codes "unit 2 committed" ∷ codes "emit 7" ∷ codes "ok 2" ∷ codes "refused S1 1:20" ∷ codes "refused S4 1:22" ∷ codes "ok 2" ∷ codes "refused S2 1:7" ∷ codes "object acct 1 bal=5" ∷ codes "ok 2" ∷ [])
+pub in_notation : output in_text None
+    (codes "version 1 class acct { bal: int } transaction { create acct(1) set bal = 5 }\ntransaction { emit 7 }\ntransaction { emit }\ntransaction { delete mark(1) }\nclock 5\nclock 4\nshow # all\n")
+    ≡ lines (codes "unit 1 committed" ∷ codes "ok 1" ∷ codes "unit 2 committed" ∷ codes "emit 7" ∷ codes "ok 2" ∷ codes "refused S1 1:20" ∷ codes
+    "refused S4 1:22" ∷ codes "ok 2" ∷ codes "refused S2 1:7" ∷ codes "object acct 1 bal=5" ∷ codes "ok 2" ∷ [])
 unfolding text_on_literals script_on_literals text_checked text_line_checked library_at timed_script_at excerpt_from show_of item_of request_at
 in_notation = refl
 

@@ -70,7 +70,8 @@ pub record Replays (manner : Manner) (first : Line) (later : List Line) (journal
   -- the bytes of the journal are read as the script, unless they are more than a script may have
   pub read_is : (text : Bytes) → json_at text ≡ Ok journal → script_of text ≡ (if nat_lt 1048576 (length text) then Err (over_limit size_limit) else Ok script)
   -- the same of a text that stands for it
-  pub text_is : (text : Bytes) (s : T.Script) → read_text text ≡ Ok s → T.script_data s ≡ journal → script_of_text text ≡ (if nat_lt 1048576 (length text) then Err (record { refusal = over_limit size_limit; place = None }) else Ok script)
+  pub text_is : (text : Bytes) (s : T.Script) → read_text text ≡ Ok s → T.script_data s ≡ journal
+      → script_of_text text ≡ (if nat_lt 1048576 (length text) then Err (record { refusal = over_limit size_limit; place = None }) else Ok script)
   pub library_is : script.library ≡ base.library
   pub state_is : (evaluate script).state ≡ base.state
   pub report_is : text_of manner.with_tree (Ok script)

@@ -33,8 +33,10 @@ returns c =
     let chain_put : string_bytes c.put_chain_by.new.text ≡ string_bytes c.put_kind_lines.new.out ++ chain_text S c.in_ok-own.own = search rules in
     let h = chain_put ∙ ap (λ k. string_bytes c.put_kind_lines.new.out ++ chain_text S k) own_is in
     let o : string_bytes c.put_openings.new.out ≡ string_bytes c.put_chain_by.new.text ++ opening_lines 0 L.rules = search rules in
-    let idle_put : string_bytes c.put_idles.new.out ≡ string_bytes c.put_openings.new.out ++ idle_lines c.in_ok-graph.graph.triggers.present.items c.in_ok-reached.reached.items 0 L.rules = search rules in
+    let idle_put : string_bytes c.put_idles.new.out ≡ string_bytes c.put_openings.new.out ++ idle_lines c.in_ok-graph.graph.triggers.present.items c.in_ok-reached.reached.items 0 L.rules =
+    search rules in
     let i = idle_put ∙ ap₂ (λ a b. string_bytes c.put_openings.new.out ++ idle_lines a b 0 L.rules) c.in_ok-graph.ensures.present reached_is in
     whole_text (verdicts_of L (finds_nothing found) (script_depth (with_installed S))) (kind_lines found) (chain_text S (script_depth (with_installed S))) (opening_lines 0 L.rules)
-    (idle_lines (installed L us) (reached (with_installed S).library us) 0 L.rules) (string_bytes c.new-text.result) (string_bytes c.put_verdicts.new.text) (string_bytes c.put_kind_lines.new.out) (string_bytes c.put_chain_by.new.text)
+    (idle_lines (installed L us) (reached (with_installed S).library us) 0 L.rules) (string_bytes c.new-text.result) (string_bytes c.put_verdicts.new.text)
+    (string_bytes c.put_kind_lines.new.out) (string_bytes c.put_chain_by.new.text)
     (string_bytes c.put_openings.new.out) (string_bytes c.put_idles.new.out) start v k h o i

@@ -11,5 +11,6 @@ use Rattle.hipac_check.proofs.checking.put_any_chain.Goals as goal
 pub returns : goal.returns
 returns c =
     let L = libraries.library c.args.library.now in
-    let put : OnOk c.put_chain.result (Gains c.args.text.now c.put_chain.new.out (chain_lines L.rules (seen c.in_ok-graph.graph.triggers) (library_chain (seen c.in_ok-graph.graph.triggers)))) = search rules in
+    let put : OnOk c.put_chain.result
+    (Gains c.args.text.now c.put_chain.new.out (chain_lines L.rules (seen c.in_ok-graph.graph.triggers) (library_chain (seen c.in_ok-graph.graph.triggers)))) = search rules in
     subst (λ (l : Library). OnOk c.put_chain.result (Gains c.args.text.now c.put_chain.new.out (chain_lines L.rules l (library_chain l)))) c.in_ok-graph.ensures put

@@ -14,6 +14,7 @@ pub returns-in-None : goal.returns-in-None
 returns-in-None c =
     let L = libraries.library c.args.library.now in
     let us = map unit c.args.units.now in
-    let put : OnOk c.put_own_chain.result (Gains c.args.text.now c.put_own_chain.new.text (chain_lines L.rules (seen c.args.graph.now.triggers) (script_chain (seen c.args.graph.now.triggers) us))) = search rules in
+    let put : OnOk c.put_own_chain.result
+    (Gains c.args.text.now c.put_own_chain.new.text (chain_lines L.rules (seen c.args.graph.now.triggers) (script_chain (seen c.args.graph.now.triggers) us))) = search rules in
     subst (λ (o : Option ℕ). OnOk c.put_own_chain.result (Gains c.args.text.now c.put_own_chain.new.text (chain_text (script L us) o))) (sym c.in-None.is)
     (subst (λ (l : Library). OnOk c.put_own_chain.result (Gains c.args.text.now c.put_own_chain.new.text (chain_lines L.rules l (script_chain l us)))) c.requires put)

@@ -8,5 +8,6 @@ use Rattle.hipac_check.proofs.lines.put_link.Goals as goal
 
 pub returns : goal.returns
 returns c =
-    subst (λ (name : List ℕ). OnOk c.put_rule.result (Gains c.args.out.now c.put_rule.new.out (line 0 (codes "chain" ∷ path_text (to_member (codes "rules") ∷ to_item c.args.number ∷ []) ∷ name ∷ [])))) c.name_of-name.ensures
+    subst (λ (name : List ℕ). OnOk c.put_rule.result
+    (Gains c.args.out.now c.put_rule.new.out (line 0 (codes "chain" ∷ path_text (to_member (codes "rules") ∷ to_item c.args.number ∷ []) ∷ name ∷ [])))) c.name_of-name.ensures
     c.put_rule.ensures

@@ -9,5 +9,6 @@ pub loop-n-preserved : goal.loop-n-preserved
 loop-n-preserved c =
     let next : c.loop-n.n + 1 ≡ suc c.loop-n.n = omega arith in
     let split : drop c.loop-n.n c.args.rules.now ≡ c.index-rules-n.result ∷ drop (c.loop-n.n + 1) c.args.rules.now = grind (arith, common_steps, c.index-rules-n.is, c.loop-n-test.true) in
-    opening_put c.loop-n.n (c.loop-n.n + 1) (rule c.index-rules-n.result) (map rule (drop c.loop-n.n c.args.rules.now)) (map rule (drop (c.loop-n.n + 1) c.args.rules.now)) (string_bytes c.loop-n.out) (string_bytes c.put_opening.new.out)
+    opening_put c.loop-n.n (c.loop-n.n + 1) (rule c.index-rules-n.result) (map rule (drop c.loop-n.n c.args.rules.now)) (map rule (drop (c.loop-n.n + 1) c.args.rules.now))
+    (string_bytes c.loop-n.out) (string_bytes c.put_opening.new.out)
     (string_bytes c.args.out.now ++ opening_lines 0 (map rule c.args.rules.now)) next (ap (map rule) split) c.in_ok-put_opening.ensures c.loop-n.invariant

@@ -27,11 +27,11 @@ returns-in-Ok-clause-status c =
 pub returns-else-is_memory-clause-text : goal.returns-else-is_memory-clause-text
 returns-else-is_memory-clause-text c =
     let is : json_of c.args.input.now ≡ None =
-        is_no_json _ (c.in-Err.ensures.err (λ m. true≢false (sym (c.is_memory.ensures.1 m) ∙ c.if-is_memory.false))) in
+    is_no_json _ (c.in-Err.ensures.err (λ m. true≢false (sym (c.is_memory.ensures.1 m) ∙ c.if-is_memory.false))) in
     IfOk-weaker c.refused.result _ _ (λ a h. h ∙ ap print_answer (sym is)) c.refused.ensures.text
 
 pub returns-else-is_memory-clause-status : goal.returns-else-is_memory-clause-status
 returns-else-is_memory-clause-status c =
     let is : json_of c.args.input.now ≡ None =
-        is_no_json _ (c.in-Err.ensures.err (λ m. true≢false (sym (c.is_memory.ensures.1 m) ∙ c.if-is_memory.false))) in
+    is_no_json _ (c.in-Err.ensures.err (λ m. true≢false (sym (c.is_memory.ensures.1 m) ∙ c.if-is_memory.false))) in
     IfOk-weaker c.refused.result _ _ (λ a h. h ∙ ap status_for (sym is)) c.refused.ensures.status

@@ -19,7 +19,8 @@ is_statement_calm-returns-in-If t c =
 
 pub is_statement_calm-returns-in-Each : goal.is_statement_calm-returns-in-Each
 is_statement_calm-returns-in-Each t c =
-    let is : R.each (string_bytes c.in-Each.variable) c.in-Each.class (expression c.in-Each.predicate.value) (body_in c.in-Each.body.items) ≡ statement c.args.s.now = search (rules, the_lemmas, row_body_lem) in
+    let is : R.each (string_bytes c.in-Each.variable) c.in-Each.class (expression c.in-Each.predicate.value) (body_in c.in-Each.body.items) ≡ statement c.args.s.now =
+    search (rules, the_lemmas, row_body_lem) in
     let e : c.is_calm-in-Each.result ≡ K.is_calm (expression c.in-Each.predicate.value) = search rules in
     let a : c.is_body_calm-inside.result ≡ K.is_body_calm (body_in c.in-Each.body.items) = search rules in
     c.both-in-Each.ensures ∙ ap₂ (λ x y. x && y) e a ∙ ap K.is_statement_calm is
@@ -32,7 +33,8 @@ is_statement_calm-returns-in-For t c =
 
 pub is_statement_calm-returns-in-With : goal.is_statement_calm-returns-in-With
 is_statement_calm-returns-in-With t c =
-    let is : R.with_object (string_bytes c.in-With.variable) c.in-With.class (expression c.in-With.key.value) (body_in c.in-With.body.items) ≡ statement c.args.s.now = search (rules, the_lemmas, row_body_lem) in
+    let is : R.with_object (string_bytes c.in-With.variable) c.in-With.class (expression c.in-With.key.value) (body_in c.in-With.body.items) ≡ statement c.args.s.now =
+    search (rules, the_lemmas, row_body_lem) in
     let e : c.is_calm-in-With.result ≡ K.is_calm (expression c.in-With.key.value) = search rules in
     let a : c.is_body_calm-inside-in-With.result ≡ K.is_body_calm (body_in c.in-With.body.items) = search rules in
     c.both-in-With.ensures ∙ ap₂ (λ x y. x && y) e a ∙ ap K.is_statement_calm is

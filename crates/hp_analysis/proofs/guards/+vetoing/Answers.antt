@@ -18,7 +18,8 @@ is_veto-returns-in-If t c =
 
 pub is_veto-returns-in-Each : goal.is_veto-returns-in-Each
 is_veto-returns-in-Each t c =
-    let is : R.each (string_bytes c.in-Each.variable) c.in-Each.class (expression c.in-Each.predicate.value) (body_in c.in-Each.body.items) ≡ statement c.args.s.now = search (rules, the_lemmas, row_body_lem) in
+    let is : R.each (string_bytes c.in-Each.variable) c.in-Each.class (expression c.in-Each.predicate.value) (body_in c.in-Each.body.items) ≡ statement c.args.s.now =
+    search (rules, the_lemmas, row_body_lem) in
     let a : c.may_veto.result ≡ body_vetoes (body_in c.in-Each.body.items) = search rules in
     a ∙ ap statement_vetoes is
 
@@ -30,7 +31,8 @@ is_veto-returns-in-For t c =
 
 pub is_veto-returns-in-With : goal.is_veto-returns-in-With
 is_veto-returns-in-With t c =
-    let is : R.with_object (string_bytes c.in-With.variable) c.in-With.class (expression c.in-With.key.value) (body_in c.in-With.body.items) ≡ statement c.args.s.now = search (rules, the_lemmas, row_body_lem) in
+    let is : R.with_object (string_bytes c.in-With.variable) c.in-With.class (expression c.in-With.key.value) (body_in c.in-With.body.items) ≡ statement c.args.s.now =
+    search (rules, the_lemmas, row_body_lem) in
     let a : c.may_veto-in-With.result ≡ body_vetoes (body_in c.in-With.body.items) = search rules in
     a ∙ ap statement_vetoes is
 

@@ -21,7 +21,8 @@ mark_statement-returns-in-If t c =
 
 pub mark_statement-returns-in-Each : goal.mark_statement-returns-in-Each
 mark_statement-returns-in-Each t c =
-    let is : R.each (string_bytes c.in-Each.variable) c.in-Each.class (expression c.in-Each.predicate.value) (body_in c.deref-in-Each.result.now) ≡ statement c.args.s.now = search (rules, the_lemmas, row_body_lem) in
+    let is : R.each (string_bytes c.in-Each.variable) c.in-Each.class (expression c.in-Each.predicate.value) (body_in c.deref-in-Each.result.now) ≡ statement c.args.s.now =
+    search (rules, the_lemmas, row_body_lem) in
     c.mark_body-in-Each.ensures ∙ ap (λ s. marked (statement_installs s) c.args.set.now.items) is
 
 pub mark_statement-returns-in-For : goal.mark_statement-returns-in-For
@@ -31,7 +32,8 @@ mark_statement-returns-in-For t c =
 
 pub mark_statement-returns-in-With : goal.mark_statement-returns-in-With
 mark_statement-returns-in-With t c =
-    let is : R.with_object (string_bytes c.in-With.variable) c.in-With.class (expression c.in-With.key.value) (body_in c.deref-in-With.result.now) ≡ statement c.args.s.now = search (rules, the_lemmas, row_body_lem) in
+    let is : R.with_object (string_bytes c.in-With.variable) c.in-With.class (expression c.in-With.key.value) (body_in c.deref-in-With.result.now) ≡ statement c.args.s.now =
+    search (rules, the_lemmas, row_body_lem) in
     c.mark_body-in-With.ensures ∙ ap (λ s. marked (statement_installs s) c.args.set.now.items) is
 
 pub mark_statement-returns-in-Let : goal.mark_statement-returns-in-Let

@@ -27,7 +27,8 @@ body_link-loop-i-preserved t c =
     let st = c.index-body-i.result in
     let split : drop i body ≡ st ∷ drop (i + 1) body = grind (arith, common_steps, c.index-body-i.is, c.loop-i-test.true) in
     let given : links c.in_ok-link.field-0 ≡ L.statement_link m e (item_at path i) (statement st) = search rules in
-    link_next m e path i (statement st) (body_in (drop i body)) (body_in (drop (i + 1) body)) (L.body_link m e path 0 (body_in body)) (ap body_in split) (sym (ap links c.in_default.is) ∙ given) c.loop-i.invariant
+    link_next m e path i (statement st) (body_in (drop i body)) (body_in (drop (i + 1) body)) (L.body_link m e path 0 (body_in body)) (ap body_in split)
+    (sym (ap links c.in_default.is) ∙ given) c.loop-i.invariant
 
 pub statement_link-returns-in-Some : goal.statement_link-returns-in-Some
 statement_link-returns-in-Some t c =

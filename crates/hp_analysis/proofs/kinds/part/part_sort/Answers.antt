@@ -16,5 +16,6 @@ returns-in-None c =
     let s = c.args.scope.now in
     let r = reading c.args.read in
     c.look.ensures
-    ∙ ap₂ (λ (l : Bor Library) (d : Bor Declaration). part_sort (libraries.library l.now) (declarations.declared d.now) (Some (columns c.in-Some.columns.now)) c.args.part r) c.base.ensures.library c.base.ensures.declared
+    ∙ ap₂ (λ (l : Bor Library) (d : Bor Declaration). part_sort (libraries.library l.now) (declarations.declared d.now) (Some (columns c.in-Some.columns.now)) c.args.part r)
+    c.base.ensures.library c.base.ensures.declared
     ∙ ap (λ (o : Option (Bor Columns)). part_sort (library s) (declared s) (option_map (λ x. columns x.now) o) c.args.part r) (sym c.in-Some.is)

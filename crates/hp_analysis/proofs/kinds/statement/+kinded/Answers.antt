@@ -27,7 +27,8 @@ find_in_body-loop-i-preserved t c =
     let split : drop i body ≡ st ∷ drop (i + 1) body = grind (arith, common_steps, c.index-body-i.is, c.loop-i-test.true) in
     let own : Notes c.loop-i.notes c.find_own.new.notes (own_there s (item_at path i) (statement st)) = search rules in
     let inner : Notes c.find_own.new.notes c.find_inside.new.notes (inner_there s (item_at path i) (statement st)) = search rules in
-    body_noted (library s) (declared s) (scope_in s) (queries s) path i (statement st) (body_in (drop i body)) (body_in (drop (i + 1) body)) (findings c.loop-i.notes.items) (findings c.find_own.new.notes.items)
+    body_noted (library s) (declared s) (scope_in s) (queries s) path i (statement st) (body_in (drop i body)) (body_in (drop (i + 1) body))
+    (findings c.loop-i.notes.items) (findings c.find_own.new.notes.items)
     (findings c.find_inside.new.notes.items) (findings c.args.notes.now.items ++ body_there s path (body_in body)) (ap body_in split) own inner c.loop-i.invariant
 
 pub find_inside-returns-in_ok-find_in_body-in-If : goal.find_inside-returns-in_ok-find_in_body-in-If
@@ -71,7 +72,8 @@ find_inside-returns-in-For t c =
     let x = string_bytes c.in-For.query in
     let is : R.for_answer x (body_in c.deref-in-For.result.now) ≡ statement c.args.s.now = search (rules, the_lemmas, row_body_lem) in
     let inner : OnOk c.find_in_body-in-For.result (Notes c.args.notes.now c.find_in_body-in-For.new.notes
-    (F.body_findings (library s) (declared s) (with_name x (unwrap_or (lookup (bytes_eq x) (queries s)) 0) (scope_in s)) (queries s) (item_at path 2) 0 (body_in c.deref-in-For.result.now))) = search rules in
+    (F.body_findings (library s) (declared s) (with_name x (unwrap_or (lookup (bytes_eq x) (queries s)) 0) (scope_in s)) (queries s) (item_at path 2) 0 (body_in c.deref-in-For.result.now)))
+    = search rules in
     subst (λ st. OnOk c.find_in_body-in-For.result (Notes c.args.notes.now c.find_in_body-in-For.new.notes (inner_there s path st))) is inner
 
 pub find_inside-returns-in-With : goal.find_inside-returns-in-With

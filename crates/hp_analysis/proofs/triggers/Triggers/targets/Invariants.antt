@@ -11,4 +11,5 @@ use Rattle.hp_analysis.proofs.triggers.Triggers.targets.Given as goal
 abbrev pub invariant-loop-n : goal.invariant-loop-n
 invariant-loop-n l =
     let library = seen l.self in
-    map (λ (set : Vec Bool). set.items) l.sets.items ++ map (targets library) (idle_from (has l.self.present.items) (length library.classes) l.n (map rule (drop l.n l.rule-items))) ≡ map (targets library) library.rules
+    map (λ (set : Vec Bool). set.items) l.sets.items ++ map (targets library) (idle_from (has l.self.present.items) (length library.classes) l.n (map rule (drop l.n l.rule-items))) ≡ map
+    (targets library) library.rules
