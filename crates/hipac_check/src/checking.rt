@@ -54,7 +54,8 @@ pub fn check<R: Source, W: Sink>(
     // On `Ok` it has written the definition's text for the bytes up to the reader's end, and nothing else.
     ensures output { OnOk result (IfSome (R.remaining reader.old) (λ input.
         IsChecked (λ text. Appends (W.contents writer.old) (W.contents writer.new) text) is_text input)) }
-    ensures status { IfOk result (λ status. IfSome (R.remaining reader.old) (λ input. status ≡ status_of is_text input)) }
+    ensures status { IfOk result (λ status. IfSome (R.remaining reader.old) (λ input.
+        status ≡ status_of is_text input)) }
 
     // However it ends, what was written is a prefix of that text.
     ensures begins { IfSome (R.remaining reader.old) (λ input.
@@ -181,7 +182,8 @@ fn put_own_chain(
     put_chain(alloc, text, rules, graph, &chain)
 }
 
-/// Adds a chain of more firings than may nest: one that the units begin, if there may be one, and else one of any rules.
+/// Adds a chain of more firings than may nest: one that the units begin, if there may be one, and else one of any
+/// rules.
 fn put_chain_by(
     alloc: Global,
     text: &mut String,

@@ -36,7 +36,8 @@ fn put_own(out: &mut String, most: u8, limit: u8) -> Result<(), AllocError>
     Ok(())
 }
 
-/// Adds the verdict on the depth of firings: for whatever transactions come, or else for the script's own, or else none.
+/// Adds the verdict on the depth of firings: for whatever transactions come, or else for the script's own, or else
+/// none.
 pub(crate) fn put_depth(
     out: &mut String,
     limit: u8,

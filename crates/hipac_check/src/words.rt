@@ -28,8 +28,8 @@ fn text_named(word: &str) -> Option<bool>
     }
 }
 
-/// Whether the script is a text in the notation, and not JSON, by the words of a command line, the first of which is the
-/// program's name.
+/// Whether the script is a text in the notation, and not JSON, by the words of a command line, the first of which is
+/// the program's name.
 #[tactic(auto, using(crate::proofs::FewWords::text_of_one, crate::proofs::FewWords::text_of_two, crate::proofs::FewWords::text_of_others))]
 pub fn parse_words(words: &[String]) -> Result<bool, WordFault>
     ensures ok { IfOk result (λ is_text. text_for (map string_bytes words.now) ≡ Some is_text) }

@@ -68,7 +68,8 @@ impl<'a> Graph<'a> {
         units: &[Unit],
     ) -> Result<Graph<'a>, AllocError>
         ensures graph { IfOk result (λ graph. seen graph.triggers
-            ≡ with_only (installed (libraries.library library.now) (map unit units.now)) (libraries.library library.now)) }
+            ≡ with_only (installed (libraries.library library.now) (map unit units.now))
+            (libraries.library library.now)) }
         ensures present { IfOk result (λ graph. graph.triggers.present.items
             ≡ installed (libraries.library library.now) (map unit units.now)) }
     {
@@ -96,8 +97,8 @@ impl<'a> Graph<'a> {
         within_each(alloc, table, &self.after)
     }
 
-    /// The least number of firings, from 1 up to the depth limit, such that no chain that begins with one of the set has
-    /// more.
+    /// The least number of firings, from 1 up to the depth limit, such that no chain that begins with one of the set
+    /// has more.
     fn depth_from(&self, alloc: Global, set: &[bool]) -> Result<Option<u8>, AllocError>
         ensures { IfOk result (IsLeast
             (λ k. nat_lt 0 k && is_within (within (seen self.now.triggers) k) set.now)
@@ -124,8 +125,8 @@ impl<'a> Graph<'a> {
         self.depth_from(alloc, &set)
     }
 
-    /// The number of firings of the longest chain that one of these units begins, if no such chain has more of them than
-    /// may nest; 1 if they trigger no rule.
+    /// The number of firings of the longest chain that one of these units begins, if no such chain has more of them
+    /// than may nest; 1 if they trigger no rule.
     ///
     /// Then a script of these units doesn't meet the depth limit (`hp_model::laws::chains`).
     pub fn longest_chain_of(&self, alloc: Global, units: &[Unit]) -> Result<Option<u8>, AllocError>

@@ -27,8 +27,8 @@ pub fn chain_is_path()
 {}
 
 /// Wherever a firing of a rule may trigger another one there is a link. At its first path stands a statement of the
-/// rule's action, or the mode by which a transaction of its own commits. At the second one stands a pattern of the other
-/// rule's event that what is signalled may end, or that rule if the statement fires it.
+/// rule's action, or the mode by which a transaction of its own commits. At the second one stands a pattern of the
+/// other rule's event that what is signalled may end, or that rule if the statement fires it.
 pub fn links_stand()
     ensures { LinksStand }
 {}

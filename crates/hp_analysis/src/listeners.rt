@@ -69,7 +69,8 @@ pub(crate) fn no_class(library: &Library) -> Result<ClassNo, AllocError>
     ClassNo::try_from(library.classes().len()).map_err(|_| AllocError)
 }
 
-/// Adds a rule to the lists of all patterns that may end its event; one outside the set waits for an object of no class.
+/// Adds a rule to the lists of all patterns that may end its event; one outside the set waits for an object of no
+/// class.
 fn add_rule(
     listeners: &mut RuleLists,
     alloc: Global,

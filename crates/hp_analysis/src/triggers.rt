@@ -32,7 +32,8 @@ impl<'a> Triggers<'a> {
     ghost use Rattle.std.specs.Prelude.{IfOk, Bool, map, length, slice_get, true};
     ghost use Rattle.std.specs.Global.{Vec};
     ghost use Rattle.hp_model.specs.Occurrences.{commit_reached, moment_reached};
-    ghost use Rattle.hp_model.specs.Chains.{completes, statement_triggers, body_triggers, rule_triggers, unit_triggers, signal_triggers};
+    ghost use Rattle.hp_model.specs.Chains.{completes, statement_triggers, body_triggers, rule_triggers};
+    ghost use Rattle.hp_model.specs.Chains.{unit_triggers, signal_triggers};
     ghost use Rattle.hp_rule.specs.Statements.{statement, body_in, rule};
     ghost use Rattle.hp_rule.specs.Mapped.{unit};
     ghost use Rattle.hp_analysis.specs.Sets.{marked, targets, begun_by};

@@ -118,7 +118,8 @@ impl RuleBase {
     /// A part of the current state, as the lines of an answer.
     pub(crate) fn show(&self, alloc: Global, excerpt: Excerpt) -> Result<String, AllocError>
         ensures { IfOk result (λ text. (base : L.RuleBase) → StandsFor self.now base →
-            string_bytes text ≡ L.excerpt_text base.library base.state (model_excerpt excerpt) ++ L.ok_line base.units) }
+            string_bytes text
+            ≡ L.excerpt_text base.library base.state (model_excerpt excerpt) ++ L.ok_line base.units) }
     {
         let mut text = self.excerpt_text(alloc, excerpt)?;
         put_ok(&mut text, self.units)?;

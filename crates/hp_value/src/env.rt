@@ -306,7 +306,12 @@ impl<'a> Env<'a> {
         time: u64,
     ) -> Env<'a>
         ensures { mapped.environment result ≡ with_findings
-            (record { occurrence = option_map (λ o. mapped.occurrence o.now) occurrence.entry; rows = []; values = []; now = time })
+            (record {
+              occurrence = option_map (λ o. mapped.occurrence o.now) occurrence.entry;
+              rows = [];
+              values = [];
+              now = time;
+            })
             (record { answers = mapped.answers answers.entry.now; values = mapped.named_values values.entry.now }) }
     {
         Env {
@@ -338,7 +343,8 @@ impl<'a> Env<'a> {
 
     /// This environment with one more value, whose name hides outer ones.
     pub fn holding<'b>(&'b self, name: &'b str, held: &'b Value) -> Env<'b>
-        ensures { environment result ≡ model.holding name.entry.now (value held.entry.now) (environment self.entry.now) }
+        ensures { environment result
+            ≡ model.holding name.entry.now (value held.entry.now) (environment self.entry.now) }
     {
         Env {
             occurrence: self.occurrence,

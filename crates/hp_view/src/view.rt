@@ -1,7 +1,9 @@
 //! A view: a snapshot, what was read of it, and what is written over it.
 
-ghost use Rattle.std.specs.Prelude.{◌≡◌, ◌↔◌, ℕ, ℤ, List, All, Option, ◌≤◌, [], true, false, length, take, map, None, Some};
-ghost use Rattle.std.specs.Prelude.{is_some, MatchOption, IsTrue, IsOk, IsSome, IfOk, IfSome, IfNone, OnOk, OnErr, option_map};
+ghost use Rattle.std.specs.Prelude.{◌≡◌, ◌↔◌, ℕ, ℤ, List, All, Option, ◌≤◌, [], true, false, length, take, map};
+ghost use Rattle.std.specs.Prelude.{None, Some};
+ghost use Rattle.std.specs.Prelude.{is_some, MatchOption, IsTrue, IsOk, IsSome, IfOk, IfSome, IfNone, OnOk};
+ghost use Rattle.std.specs.Prelude.{OnErr, option_map};
 ghost use Rattle.std.specs.List.{list_all};
 ghost use Rattle.hp_model.specs.Values as model;
 ghost use Rattle.hp_model.specs.Cells.{Cells, AreKeys, IsGreatestKey, IsCount, AreObjects, ArePart, Holds, object_cell};

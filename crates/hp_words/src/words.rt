@@ -3,7 +3,8 @@
 ghost use Rattle.std.specs.Prelude.{◌≡◌, ◌≢◌, map, string_bytes, codes, IfOk, IfErr, Some, None, true, false};
 ghost use Rattle.std.specs.Option.{option_map};
 ghost use Rattle.clap.specs.Words.{one_of, first_of, rows_of, found_of, rule_of, app_of, kind_of, FailsBy};
-ghost use Rattle.hp_words.specs.Words.{app, plain_app, rows_for, faults_for, flag_rule, number_in, flag_in, options_in, options_for};
+ghost use Rattle.hp_words.specs.Words.{app, plain_app, rows_for, faults_for, flag_rule, number_in, flag_in};
+ghost use Rattle.hp_words.specs.Words.{options_in, options_for};
 ghost use Rattle.hp_words.specs.Words.{script_for, AreOfWords, AreOfLiveWords, word_code_of};
 ghost use Rattle.hp_words.specs.declared.words.WordFault.TheVariants.{NoMemory};
 

@@ -12,7 +12,8 @@ ghost use Rattle.hp_rule.specs.Places.{steps};
 ghost use Rattle.hp_model.specs.Kinds as kinds;
 ghost use Rattle.hp_analysis.specs.Findings as model;
 ghost use Rattle.hp_analysis.specs.Kinded.{sort, Gives, Passes, Notes};
-ghost use Rattle.hp_analysis.specs.Scopes.{library, declared, scope_in, queries, single_there, own_there, inner_there, body_there};
+ghost use Rattle.hp_analysis.specs.Scopes.{library, declared, scope_in, queries, single_there, own_there};
+ghost use Rattle.hp_analysis.specs.Scopes.{inner_there, body_there};
 
 use crate::kinds::aggregate::aggregate_sort;
 use crate::kinds::expr::{check_kind, check_suits, sort_of};

@@ -25,7 +25,8 @@ pub struct Inferred {
     pub unknown: Vec<UnknownArgument>,
 }
 
-/// For each argument, what is read and given as one of its group, by the readings' numbers; listed at the group's first.
+/// For each argument, what is read and given as one of its group, by the readings' numbers; listed at the group's
+/// first.
 fn sources(alloc: Global, arguments: &Arguments) -> Result<Vec<Vec<usize>>, AllocError> {
     let mut sources: Vec<Vec<usize>> = Vec::new(alloc);
     for _ in &arguments.known {
