@@ -1,6 +1,6 @@
 //! The ends of nested transactions.
 
-ghost use Rattle.std.specs.Prelude.{◌≡◌, ◌≤◌, IfOk, OnOk, OnErr, map, length, option_map};
+ghost use Rattle.std.specs.Prelude.{◌≡◌, ◌≤◌, IfOk, IsOk, OnOk, OnErr, map, length, option_map};
 ghost use Rattle.hp_model.specs.Rules.{Library as ModelLibrary};
 ghost use Rattle.hp_model.specs.Transactions as model;
 ghost use Rattle.hp_model.specs.Transactions.{Work};
@@ -31,6 +31,7 @@ pub fn end_transaction(view: &mut View, mark: Mark, how: &End) -> Result<(), All
     ensures closes { OnOk result ((first : Seeing) → GoesOn first view.old → length first.undo ≡ mark
         → Closes first view.old view.new (mapped.end how.now)) }
     ensures err { OnErr result (view.new ≡ view.old) }
+    ensures nothing { mark ≡ length view.old.undo → IsOk result }
 {
     match how {
         End::Done => {

@@ -1,6 +1,7 @@
 //! The part of statements before their event is signalled.
 
-ghost use Rattle.std.specs.Prelude.{◌≡◌, IfOk, map, option_to_list};
+ghost use Rattle.std.specs.Prelude.{◌≡◌, ℤ, Ok, IfOk, map, option_to_list};
+ghost use Rattle.hp_model.specs.Cells.{object_cell};
 ghost use Rattle.hp_model.specs.Tree.{without_detachments};
 ghost use Rattle.hp_model.specs.Transactions.{Work};
 ghost use Rattle.hp_model.specs.Rules as rules;
@@ -13,7 +14,9 @@ ghost use Rattle.hp_value.specs.Mapped.{value as value_of};
 ghost use Rattle.hp_query.specs.Mapped.{aggregate as aggregate_of, keyed_rows};
 ghost use Rattle.hp_rule.specs.Mapped.{assignment, library, task as task_of};
 ghost use Rattle.hp_tree.specs.Mapped.{items_in};
+ghost use Rattle.hp_view.specs.Adding.{AddsReads};
 ghost use Rattle.hp_view.specs.Seeing.{Seeing};
+ghost use Rattle.hp_ops.specs.Reading.{IsReadOf};
 ghost use Rattle.hp_fire.specs.Mapped.{context as context_in};
 ghost use Rattle.hp_fire.specs.Runs.{AreReady, Steps, Looks, Made};
 ghost use Rattle.hp_fire.specs.Signals.{signal_of};
@@ -206,9 +209,12 @@ impl<W> Engine<'_, W> {
         class: ClassNo,
         key: &Expr,
     ) -> Result<KeyedRow, Halt>
-        ensures { let environment = (context_in context.now).environment in
+        ensures found { let environment = (context_in context.now).environment in
             Looks keyed_row (library self.now.lib.now)
             (λ S. model.named_object S.objects environment class (expression key.now)) view.old view.new result }
+        ensures reads { (k : ℤ) →
+            model.integer_value (context_in context.now).environment (expression key.now) ≡ Ok k →
+            AddsReads (IsReadOf (object_cell class k)) view.old.reads view.new.reads }
     {
         let key = integer(self.alloc, &context.env, key)?;
         match find_object(self.alloc, view, class, key)? {

@@ -1,6 +1,6 @@
 //! The attempts at the tasks of a group that aren't settled.
 
-ghost use Rattle.std.specs.Prelude.{◌≡◌, IfOk, All};
+ghost use Rattle.std.specs.Prelude.{◌≡◌, ◌-◌, ◌≤◌, ◌<◌, IfOk, All, Some, length, slice_set};
 ghost use Rattle.rtrb.specs.Ring.{received};
 ghost use Rattle.hp_model.specs.Rules.{Library as ModelLibrary};
 ghost use Rattle.hp_model.specs.Soundness.{IsSound};
@@ -98,14 +98,19 @@ impl Pending {
     }
 
     // The number of settled tasks of the group.
-    fn settled_count(&self) -> usize {
+    fn settled_count(&self) -> usize
+        ensures { result ≡ length self.now.costs.items - length self.now.attempts.items }
+    {
         self.costs.len().saturating_sub(self.attempts.len())
     }
 
     /// Stores an attempt for its task, if that isn't settled.
     pub(crate) fn put(&mut self, tried: Tried)
-        ensures { (library : ModelLibrary) → AreSound library self.old.attempts.items
+        ensures sound { (library : ModelLibrary) → AreSound library self.old.attempts.items
             → IsSound library (attempt_of tried.attempt) → AreSound library self.new.attempts.items }
+        ensures place { let first = length self.old.costs.items - length self.old.attempts.items in
+            first ≤ tried.index → tried.index - first < length self.old.attempts.items →
+            self.new.attempts.items ≡ slice_set self.old.attempts.items (tried.index - first) (Some tried.attempt) }
     {
         let Tried {
             index,
@@ -122,8 +127,10 @@ impl Pending {
 
     // Stores the attempt at a task that isn't settled. The first of those has slot 0.
     fn set_attempt(&mut self, slot: usize, attempt: Attempt)
-        ensures { (library : ModelLibrary) → AreSound library self.old.attempts.items
+        ensures sound { (library : ModelLibrary) → AreSound library self.old.attempts.items
             → IsSound library (attempt_of attempt) → AreSound library self.new.attempts.items }
+        ensures place { slot < length self.old.attempts.items →
+            self.new.attempts.items ≡ slice_set self.old.attempts.items slot (Some attempt) }
     {
         if slot < self.attempts.len() {
             self.attempts[slot] = Some(attempt);

@@ -1,7 +1,10 @@
 //! What a worker has found of its tasks' predecessors: the tasks before them in the group.
 
-ghost use Rattle.std.specs.Prelude.{◌+◌, ◌^◌, ◌<◌, length};
+ghost use Rattle.std.specs.Prelude.{◌≡◌, ◌+◌, ◌^◌, ◌<◌, OnOk, length};
+ghost use Rattle.std.specs.Option.{option_or};
+ghost use Rattle.hp_model.specs.Cells.{Cell as ModelCell};
 ghost use Rattle.hp_board.specs.Passes.{IsPassOf};
+ghost use Rattle.hp_store.specs.Changes.{changes};
 
 use crate::speculate::index::WaveIndex;
 use crate::speculate::wave::Wave;
@@ -95,6 +98,10 @@ impl Predecessors {
         later: &mut Layer,
     ) -> Result<(), AllocError>
         requires { predecessor + 1 < 2 ^ 64 }
+        ensures next { OnOk result (predecessor ≡ self.old.count → (q : ModelCell) →
+            changes self.new.layer.value q ≡ option_or (changes layer.now q) (changes self.old.layer.value q)) }
+        ensures later { OnOk result ((predecessor ≡ self.old.count → ⊥) → (q : ModelCell) →
+            changes later.new q ≡ option_or (changes layer.now q) (changes later.old q)) }
     {
         if predecessor != self.count {
             return later.take_in(layer);

@@ -353,7 +353,7 @@ Engine::with_object-returns-in_err-row g t c =
     (found_halt keyed_row (λ r. run_body (body_in c.args.body.now) (level_at (library c.args.self.now.lib.now) c.args.context.now.env.time c.args.context.now.depth)
     (with_row c.args.binding.variable.now r (context c.args.context.now)))
     (λ S. named_object S.objects (context c.args.context.now).environment c.args.binding.class (expression c.args.binding.key.now)) c.in_err-row.field-0.0
-    (library c.args.self.now.lib.now) c.args.view.now c.named_object.new.view c.in_err-row.ensures)
+    (library c.args.self.now.lib.now) c.args.view.now c.named_object.new.view c.in_err-row.ensures.found)
 
 pub Engine::with_object-returns : goal.Engine::with_object-returns
 Engine::with_object-returns g t c =
@@ -361,7 +361,7 @@ Engine::with_object-returns g t c =
     let fits : SFits w64 c.in_ok-row.row.key = search rules in
     let back : to_z w64 (of_z w64 c.in_ok-row.row.key) ≡ c.in_ok-row.row.key = to_z-of_z w64 c.in_ok-row.row.key fits in
     found_value (λ r. run_body (body_in c.args.body.now) (level_at (library c.args.self.now.lib.now) c.args.context.now.env.time c.args.context.now.depth)
-    (with_row x r (context c.args.context.now))) c.in_ok-row.ensures
+    (with_row x r (context c.args.context.now))) c.in_ok-row.ensures.found
     (body_under (body_in c.args.body.now) (c.bound-inner.ensures.context ∙ ap (λ k. with_row x (record { key = k; row = c.in_ok-row.row.row }) (context c.args.context.now)) back)
     c.bound-inner.ensures.depth c.in_ok-course.ensures)
 

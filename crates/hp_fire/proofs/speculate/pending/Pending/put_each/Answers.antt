@@ -12,4 +12,4 @@ loop-tried-preserved c = λ library all tries.
     let split : c.loop-tried.tried-iterator.rest.items ≡ c.in-Some.tried ∷ c.next.new.self.rest.items = search rules in
     let held = c.loop-tried.invariant library all tries in
     let more = subst (All P) split held.1 in
-    (c.put.ensures library held.0 (All-head P c.in-Some.tried c.next.new.self.rest.items more), All-tail P c.in-Some.tried c.next.new.self.rest.items more)
+    (c.put.ensures.sound library held.0 (All-head P c.in-Some.tried c.next.new.self.rest.items more), All-tail P c.in-Some.tried c.next.new.self.rest.items more)

@@ -6,5 +6,5 @@ returns-in_default-clause-channel c = λ library is. c.receive.ensures.channel l
 pub loop-preserved : goal.loop-preserved
 loop-preserved c = (
   λ library is. c.receive.ensures.channel library (c.loop.invariant.0 library is),
-  λ library is all. c.put.ensures library (c.loop.invariant.1 library is all) (c.in-Some.ensures.sound library (c.loop.invariant.0 library is)),
+  λ library is all. c.put.ensures.sound library (c.loop.invariant.1 library is all) (c.in-Some.ensures.sound library (c.loop.invariant.0 library is)),
 )

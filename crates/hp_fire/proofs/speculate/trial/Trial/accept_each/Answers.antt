@@ -21,7 +21,7 @@ pub loop-preserved : goal.loop-preserved
 loop-preserved g c =
     let lib = library c.args.self.now.lib.now in
     let so_far = c.loop.invariant in
-    let sound = c.put.ensures lib so_far.0.sound c.in-Some.ensures.sound in
+    let sound = c.put.ensures.sound lib so_far.0.sound c.in-Some.ensures.sound in
     let put : Progress = record c.loop.progress { pending = c.put.new.self } in
     let accepted = c.in_ok-accept_sent.ensures.comes lib so_far.1 sound in (
       comes_then c.args.progress.now c.loop.progress c.accept_sent.new.self so_far.0
