@@ -42,14 +42,7 @@ fn answered<R: AllocGlobal + Threads + Sync>(
     script.extend_from_slice(file)?;
     let mut reader = Watched::new(new_device(alloc, input, EASY));
     let mut writer = Watched::new(new_device(alloc, b"", writes));
-    let ended = run(
-        rt,
-        alloc,
-        Some(script),
-        &mut reader,
-        &mut writer,
-        options,
-    );
+    let ended = run(rt, alloc, Some(script), &mut reader, &mut writer, options);
     Ok((
         writer.into_inner().output,
         reader.into_inner().input.len(),
