@@ -1,7 +1,8 @@
 -- A session in the caller's own process.
 --     IsSession s m t      the session s, which reads lines and answers them in the manner m, is at the stage t
 --     Gave s o m t l       what it keeps after the line l, which it took at the stage t
-use Rattle.std.specs.Prelude.{◌≡◌, ◌++◌, true, false}
+--     show_line b          the line that asks for the whole state
+use Rattle.std.specs.Prelude.{◌≡◌, ◌++◌, Bool, true, false, codes}
 use Rattle.hp_lines.specs.Lines.{Line}
 use Rattle.hp_lines.specs.Live as L
 use Rattle.hp_live.specs.Kept.{IsStage, manner}
@@ -19,3 +20,7 @@ pub record Gave (kept : Session) (outcome : Outcome) (m : L.Manner) (stage : L.S
   pub answer_is : kept.answer.items ≡ (L.answer m stage line).body ++ (L.answer m stage line).last
   pub outcome_is : outcome ≡ outcome_of m stage line
   pub session_is : IsSession kept m (L.answer m stage line).stage
+
+abbrev pub show_line : (is_text : Bool) → Line
+show_line false = codes "[\"show\"]"
+show_line true = codes "show"

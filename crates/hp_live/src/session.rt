@@ -1,9 +1,9 @@
 //! A rule base in the caller's own process.
 
-ghost use Rattle.std.specs.Prelude.{◌≡◌, [], IfOk, OnOk, OnErr, true, false};
+ghost use Rattle.std.specs.Prelude.{◌≡◌, [], IfOk, OnOk, OnErr, string_bytes, true, false};
 ghost use Rattle.hp_lines.specs.Live as L;
 ghost use Rattle.hp_live.specs.Kept.{manner};
-ghost use Rattle.hp_live.specs.Sessions.{IsSession, Gave};
+ghost use Rattle.hp_live.specs.Sessions.{IsSession, Gave, show_line};
 
 use crate::options::Options;
 use crate::server::{Outcome, Stage, answer_at};
@@ -66,4 +66,24 @@ impl Session {
         self.lost = false;
         Ok(reply.outcome)
     }
+
+    /// Answers the line that asks for the whole state, and keeps the answer.
+    pub fn show(&mut self, alloc: Global) -> Result<Outcome, AllocError>
+        ensures answer { IfOk result (λ outcome. (m : L.Manner) (now : L.Stage) →
+            IsSession self.old m now → Gave self.new outcome m now (show_line m.is_text)) }
+        // A lost session answers nothing more.
+        ensures once { OnOk result (self.old.lost ≡ false) }
+        ensures lost { OnErr result (self.new.lost ≡ true) }
+        ensures nothing { OnErr result (self.new.answer.items ≡ []) }
+    {
+        let line = state_line(self.options.text);
+        self.line(alloc, line.as_bytes())
+    }
+}
+
+/// The line that asks for the whole state.
+fn state_line(is_text: bool) -> &'static str
+    ensures { string_bytes result ≡ show_line is_text }
+{
+    if is_text { "show" } else { "[\"show\"]" }
 }
