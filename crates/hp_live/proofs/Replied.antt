@@ -11,7 +11,7 @@ use Rattle.hp_live.specs.Kept.{StandsFor, Answers}
 use Rattle.hp_live.specs.Outcomes.{Replies, outcome_by}
 use Rattle.hp_live.specs.declared.base.RuleBase.{RuleBase}
 use Rattle.hp_live.specs.declared.server.Stage.{Stage}
-use Rattle.hp_live.specs.declared.server.Stage.TheVariants.{Up}
+use Rattle.hp_live.specs.declared.server.Stage.TheVariants.{Up, Closed}
 use Rattle.hp_live.specs.declared.server.Outcome.{Outcome}
 use Rattle.hp_live.specs.declared.server.Reply.{Reply}
 use Rattle.hp_live.proofs.Asked.{asked_of}
@@ -33,3 +33,10 @@ replied_first reply text new manner line r read is became answers = record {
   answers = subst (λ (t : String Global). Answers t new (L.answer manner L.unopened line)) (sym is) answers;
   outcome_is = became ∙ sym (ap outcome_by read);
 }
+
+-- a refused script
+pub refused_first : (reply : Reply) (text : String Global) (manner : L.Manner) (line : List ℕ) → timed_script_in manner.is_text line ≡ Err (string_bytes text)
+    → reply.text ≡ text → reply.outcome ≡ outcome_by {A = TimedScript} (Err (string_bytes text)) → Replies reply Closed manner L.unopened line
+refused_first reply text manner line read is became =
+    replied_first reply text Closed manner line (Err (string_bytes text)) read is became
+    (subst (λ q. Answers text Closed (L.opening_answer manner.with_tree q)) (sym read) (record { text_is = refl; stage_is = tt }))

@@ -1,6 +1,6 @@
 //! A rule base in the caller's own process.
 
-ghost use Rattle.std.specs.Prelude.{◌≡◌, [], IfOk, OnOk, OnErr, string_bytes, true, false};
+ghost use Rattle.std.specs.Prelude.{◌≡◌, [], IfOk, OnOk, OnErr, true, false};
 ghost use Rattle.hp_lines.specs.Live as L;
 ghost use Rattle.hp_live.specs.Kept.{manner};
 ghost use Rattle.hp_live.specs.Sessions.{IsSession, Gave, show_line};
@@ -83,7 +83,7 @@ impl Session {
 
 /// The line that asks for the whole state.
 fn state_line(is_text: bool) -> &'static str
-    ensures { string_bytes result ≡ show_line is_text }
+    ensures { result.now ≡ show_line is_text }
 {
     if is_text { "show" } else { "[\"show\"]" }
 }
