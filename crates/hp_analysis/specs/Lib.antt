@@ -19,6 +19,8 @@ pub mod Kinded
 pub mod Parts
 pub mod Places
 pub mod Readings
+pub mod Knowledge
+pub mod Bases
 pub mod Scopes
 pub mod Links
 pub mod Signalled

@@ -8,6 +8,8 @@ pub(crate) mod declaration;
 mod expr;
 pub(crate) mod finding;
 pub(crate) mod infer;
+mod known;
+mod occurred;
 mod part;
 mod rows;
 mod rule;

@@ -15,8 +15,8 @@ ghost use Rattle.hp_analysis.specs.KindLaws.{KeepsKinds};
 use crate::kinds::declaration::Declaration;
 use crate::kinds::finding::Finding;
 use crate::kinds::rows::Rows;
-use crate::kinds::rule::{Base, find_in_rules};
-use crate::kinds::scope::Scope;
+use crate::kinds::rule::find_in_rules;
+use crate::kinds::scope::{Base, Scope};
 use crate::kinds::sorts::Sorts;
 use crate::kinds::statement::find_in_body;
 use hp_rule::{Body, Library, Member, Place, Stmt, Unit};
@@ -81,6 +81,7 @@ fn find_in_statements(
         library,
         declared: declaration,
         columns: None,
+        known: &[],
         rows: Rows::Entries(&[]),
         values: Sorts::Found(&[]),
         condition: &[],

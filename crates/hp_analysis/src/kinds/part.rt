@@ -15,6 +15,7 @@ ghost use Rattle.hp_analysis.specs.Scopes.{library, declared, scope_in};
 
 use crate::kinds::declaration::Declaration;
 use crate::kinds::finding::Reason;
+use crate::kinds::known::{found_before, look};
 use crate::kinds::scope::Scope;
 use crate::kinds::sort::Sort;
 use hp_event::Pattern;
@@ -22,7 +23,7 @@ use hp_rule::Library;
 use hp_value::{ClassNo, Field, Kind};
 
 /// What an expression reads of a part.
-#[derive(Clone, Copy)]
+#[derive(Clone, Copy, Debug)]
 pub(crate) enum Reading<'a> {
     /// A field of an object after an operation.
     New(&'a str),
@@ -81,43 +82,47 @@ fn argument_sort(declaration: &Declaration, name: &str, place: u16) -> Result<So
 
 /// The sort of what is read of a part that the pattern matches.
 pub(crate) fn read_sort(
-    scope: &Scope<'_>,
+    of: &Library,
+    declaration: &Declaration,
     read: Reading<'_>,
     matching: &Pattern,
 ) -> Result<Sort, Reason>
-    ensures { explained sort result ≡ model.read_sort (library scope.now) (declared scope.now) (reading read.entry)
-        (pattern matching.now) }
+    ensures { explained sort result ≡ model.read_sort (libraries.library of.now)
+        (declarations.declared declaration.now) (reading read.entry) (pattern matching.now) }
 {
     match (read, matching) {
         (Reading::New(name), Pattern::Create(class))
         | (Reading::New(name), Pattern::Update(class))
         | (Reading::Old(name), Pattern::Update(class))
-        | (Reading::Old(name), Pattern::Delete(class)) => {
-            field_sort(scope.library, *class, name)
-        }
+        | (Reading::Old(name), Pattern::Delete(class)) => { field_sort(of, *class, name) }
         (Reading::Key, Pattern::Create(_))
         | (Reading::Key, Pattern::Update(_))
         | (Reading::Key, Pattern::Delete(_))
         | (Reading::Time, Pattern::At(_))
         | (Reading::Time, Pattern::Every { .. }) => Ok(Sort::Only(Kind::Int)),
         (Reading::Argument(place), Pattern::Signal(name)) => {
-            argument_sort(scope.declared, name.as_str(), place)
+            argument_sort(declaration, name.as_str(), place)
         }
         _ => Err(Reason::OtherForm),
     }
 }
 
 /// What is known of what is read of a part that matches one of the patterns.
-fn sort_among(scope: &Scope<'_>, read: Reading<'_>, matching: &[&Pattern]) -> Result<Sort, Reason>
-    ensures { explained sort result ≡ model.sort_among
-        (model.read_sort (library scope.now) (declared scope.now) (reading read.entry)) (patterns matching.now) }
+pub(crate) fn sort_among(
+    of: &Library,
+    declaration: &Declaration,
+    read: Reading<'_>,
+    matching: &[&Pattern],
+) -> Result<Sort, Reason>
+    ensures { explained sort result ≡ model.sort_among (model.read_sort (libraries.library of.now)
+        (declarations.declared declaration.now) (reading read.entry)) (patterns matching.now) }
 {
     let [first, others @ ..] = matching else {
         return Err(Reason::NoSuchPart);
     };
-    let mut known = read_sort(scope, read, first)?;
+    let mut known = read_sort(of, declaration, read, first)?;
     for other in others {
-        known = known.or(read_sort(scope, read, other)?);
+        known = known.or(read_sort(of, declaration, read, other)?);
     }
     Ok(known)
 }
@@ -130,8 +135,8 @@ pub(crate) fn part_sort(scope: &Scope<'_>, part: u16, read: Reading<'_>) -> Resu
     let Some(columns) = scope.columns else {
         return Err(Reason::NoOccurrence);
     };
-    match columns.places.get(part as usize) {
-        Some(matching) => sort_among(scope, read, matching),
-        None => Err(Reason::NoSuchPart),
+    match found_before(scope, part as usize, read) {
+        Some(given) => given,
+        None => look(scope.base(), columns, part as usize, read),
     }
 }

@@ -5,64 +5,25 @@ ghost use Rattle.hp_query.specs.Mapped.{entry};
 ghost use Rattle.hp_model.specs.Kinds.{query_classes, with_entries};
 ghost use Rattle.hp_rule.specs.Statements.{rule};
 ghost use Rattle.hp_rule.specs.Places.{steps};
-ghost use Rattle.hp_rule.specs.Libraries as libraries;
 ghost use Rattle.hp_analysis.specs.Findings as model;
 ghost use Rattle.hp_analysis.specs.Kinded.{Passes, Notes};
-ghost use Rattle.hp_analysis.specs.Declarations.{declared};
+ghost use Rattle.hp_analysis.specs.Bases as bases;
 ghost use Rattle.hp_analysis.specs.Places.{columns};
-ghost use Rattle.hp_analysis.specs.Scopes.{library, scope_in, scope_there, scope_after_entry};
-ghost use Rattle.hp_analysis.specs.Scopes.{declared as declared_in};
+ghost use Rattle.hp_analysis.specs.Scopes.{library, declared, scope_in, scope_there, scope_after_entry};
 
 use crate::kinds::aggregate::check_test;
-use crate::kinds::columns::Columns;
-use crate::kinds::declaration::Declaration;
 use crate::kinds::finding::{Finding, KindError, note};
-use crate::kinds::rows::Rows;
-use crate::kinds::scope::Scope;
-use crate::kinds::sorts::{NamedSort, Sorts};
+use crate::kinds::occurred::Occurred;
+use crate::kinds::scope::{Base, Scope};
+use crate::kinds::sorts::NamedSort;
 use crate::kinds::statement::{check_value, find_in_body, held_sort};
 use hp_query::Entry;
-use hp_rule::{Library, Place, Rule};
-use std::alloc::{AllocError, Global};
-
-/// A library, and what is declared of its signals.
-#[derive(Clone, Copy)]
-pub(crate) struct Base<'a> {
-    pub alloc: Global,
-    pub library: &'a Library,
-    pub declared: &'a Declaration,
-}
-
-impl<'a> Base<'a> {
-    /// What is known after these entries of a rule's condition, with the sorts of their values. An action has all of
-    /// them.
-    pub(crate) fn asked(
-        self,
-        known: &'a Columns<'a>,
-        entries: &'a [Entry],
-        found: &'a [NamedSort],
-    ) -> Scope<'a>
-        ensures library { result.library ≡ self.entry.library }
-        ensures declared { result.declared ≡ self.entry.declared }
-        ensures condition { result.condition ≡ entries.entry }
-        ensures scope { scope_in result
-            ≡ scope_there (columns known.entry.now) (map entry entries.entry.now) found.entry.now }
-    {
-        Scope {
-            alloc: self.alloc,
-            library: self.library,
-            declared: self.declared,
-            columns: Some(known),
-            rows: Rows::Entries(entries),
-            values: Sorts::Found(found),
-            condition: entries,
-        }
-    }
-}
+use hp_rule::{Place, Rule};
+use std::alloc::AllocError;
 
 /// Checks an entry of a rule's condition.
 fn check_entry(scope: &Scope<'_>, place: &Place<'_>, checked: &Entry) -> Result<(), KindError>
-    ensures { Passes result (model.entry_check (library scope.now) (declared_in scope.now) (scope_in scope.now)
+    ensures { Passes result (model.entry_check (library scope.now) (declared scope.now) (scope_in scope.now)
         (steps place.now) (entry checked.now)) }
 {
     match checked {
@@ -79,7 +40,7 @@ fn named_sort(
     asked: &Entry,
 ) -> Result<Option<NamedSort>, AllocError>
     ensures { IfOk result (λ n. scope_after_entry (scope_in scope.now) (entry asked.now) n
-        ≡ model.scope_then (library scope.now) (declared_in scope.now) (scope_in scope.now) (entry asked.now)) }
+        ≡ model.scope_then (library scope.now) (declared scope.now) (scope_in scope.now) (entry asked.now)) }
 {
     match asked {
         Entry::Query(_) | Entry::No(_) => Ok(None),
@@ -93,60 +54,57 @@ fn named_sort(
 
 /// Checks the entry of a rule's condition after these entries, with the sorts of their values.
 fn check_next(
-    base: Base<'_>,
-    known: &Columns<'_>,
+    occurred: &Occurred<'_>,
     before: &[Entry],
     found: &[NamedSort],
     place: &Place<'_>,
     next: &Entry,
 ) -> Result<(), KindError>
-    ensures { let there = scope_there (columns known.now) (map entry before.now) found.now in
-        Passes result (model.entry_check (libraries.library base.entry.library.now) (declared base.entry.declared.now)
+    ensures { let there = scope_there (columns occurred.now.columns) (map entry before.now) found.now in
+        Passes result (model.entry_check (bases.library occurred.now.base) (bases.declared occurred.now.base)
         there (steps place.now) (entry next.now)) }
 {
-    let scope = base.asked(known, before, found);
+    let scope = occurred.asked(before, found);
     check_entry(&scope, place, next)
 }
 
 /// The value of the entry of a rule's condition after these entries, with the sorts of their values.
 fn next_value(
-    base: Base<'_>,
-    known: &Columns<'_>,
+    occurred: &Occurred<'_>,
     before: &[Entry],
     found: &[NamedSort],
     place: &Place<'_>,
     next: &Entry,
 ) -> Result<Option<NamedSort>, AllocError>
-    ensures { let there = scope_there (columns known.now) (map entry before.now) found.now in
+    ensures { let there = scope_there (columns occurred.now.columns) (map entry before.now) found.now in
         IfOk result (λ n. scope_after_entry there (entry next.now) n
-        ≡ model.scope_then (libraries.library base.entry.library.now) (declared base.entry.declared.now)
+        ≡ model.scope_then (bases.library occurred.now.base) (bases.declared occurred.now.base)
         there (entry next.now)) }
 {
-    let scope = base.asked(known, before, found);
+    let scope = occurred.asked(before, found);
     named_sort(&scope, place, next)
 }
 
 /// Adds what is refused of the condition of a rule, and gives the sorts of its values.
 fn find_in_condition(
-    base: Base<'_>,
-    known: &Columns<'_>,
+    occurred: &Occurred<'_>,
     place: &Place<'_>,
     entries: &[Entry],
     notes: &mut Vec<Finding>,
 ) -> Result<Vec<NamedSort>, AllocError>
     ensures notes { OnOk result (Notes notes.old notes.new
-        (model.entries_findings (libraries.library base.entry.library.now) (declared base.entry.declared.now)
-        (steps place.now) (model.first_scope (columns known.now)) 0 (map entry entries.now))) }
-    ensures scope { IfOk result (λ ns. scope_there (columns known.now) (map entry entries.now) ns.items
-        ≡ with_entries (libraries.library base.entry.library.now) (declared base.entry.declared.now)
-        (model.first_scope (columns known.now)) (map entry entries.now)) }
+        (model.entries_findings (bases.library occurred.now.base) (bases.declared occurred.now.base)
+        (steps place.now) (model.first_scope (columns occurred.now.columns)) 0 (map entry entries.now))) }
+    ensures scope { IfOk result (λ ns. scope_there (columns occurred.now.columns) (map entry entries.now) ns.items
+        ≡ with_entries (bases.library occurred.now.base) (bases.declared occurred.now.base)
+        (model.first_scope (columns occurred.now.columns)) (map entry entries.now)) }
 {
-    let mut found = Vec::new(base.alloc);
+    let mut found = Vec::new(occurred.base.alloc);
     for (i, entry) in entries.iter().enumerate() {
         let here = place.item(i);
         let before = &entries[..i];
-        note(notes, check_next(base, known, before, &found, &here, entry))?;
-        if let Some(named) = next_value(base, known, before, &found, &here, entry)? {
+        note(notes, check_next(occurred, before, &found, &here, entry))?;
+        if let Some(named) = next_value(occurred, before, &found, &here, entry)? {
             found.push(named)?;
         }
     }
@@ -155,36 +113,34 @@ fn find_in_condition(
 
 /// Adds what is refused of the action of a rule, with the sorts of its condition's values.
 fn find_in_action(
-    base: Base<'_>,
-    known: &Columns<'_>,
+    occurred: &Occurred<'_>,
     found: &[NamedSort],
     place: &Place<'_>,
     whole: &Rule,
     notes: &mut Vec<Finding>,
 ) -> Result<(), AllocError>
     ensures { let acting = rule whole.now in
-        OnOk result (Notes notes.old notes.new (model.body_findings (libraries.library base.entry.library.now)
-        (declared base.entry.declared.now) (scope_there (columns known.now) acting.condition found.now)
+        OnOk result (Notes notes.old notes.new (model.body_findings (bases.library occurred.now.base)
+        (bases.declared occurred.now.base) (scope_there (columns occurred.now.columns) acting.condition found.now)
         (query_classes acting.condition) (steps place.now) 0 acting.action)) }
 {
-    let scope = base.asked(known, &whole.condition, found);
+    let scope = occurred.asked(&whole.condition, found);
     find_in_body(&whole.action, &scope, place, notes)
 }
 
 /// Adds what is refused of the condition and the action of a rule.
 fn find_in_parts(
-    base: Base<'_>,
-    known: &Columns<'_>,
+    occurred: &Occurred<'_>,
     place: &Place<'_>,
     whole: &Rule,
     notes: &mut Vec<Finding>,
 ) -> Result<(), AllocError>
     ensures { OnOk result (Notes notes.old notes.new
-        (model.parts_findings (libraries.library base.entry.library.now)
-        (declared base.entry.declared.now) (columns known.now) (steps place.now) (rule whole.now))) }
+        (model.parts_findings (bases.library occurred.now.base)
+        (bases.declared occurred.now.base) (columns occurred.now.columns) (steps place.now) (rule whole.now))) }
 {
-    let found = find_in_condition(base, known, &place.item(3), &whole.condition, notes)?;
-    find_in_action(base, known, &found, &place.item(5), whole, notes)
+    let found = find_in_condition(occurred, &place.item(3), &whole.condition, notes)?;
+    find_in_action(occurred, &found, &place.item(5), whole, notes)
 }
 
 /// Adds what is refused of a rule, which statements may fire or not.
@@ -196,11 +152,11 @@ fn find_in_rule(
     notes: &mut Vec<Finding>,
 ) -> Result<(), AllocError>
     ensures { OnOk result (Notes notes.old notes.new
-        (model.rule_findings (libraries.library base.entry.library.now)
-        (declared base.entry.declared.now) fired (steps place.now) (rule whole.now))) }
+        (model.rule_findings (bases.library base.entry)
+        (bases.declared base.entry) fired (steps place.now) (rule whole.now))) }
 {
-    let known = Columns::of_rule(base.alloc, fired, &whole.event)?;
-    find_in_parts(base, &known, place, whole, notes)
+    let occurred = Occurred::of(base, fired, &whole.event)?;
+    find_in_parts(&occurred, place, whole, notes)
 }
 
 /// Adds what is refused of rules.
@@ -211,8 +167,8 @@ pub(crate) fn find_in_rules(
     notes: &mut Vec<Finding>,
 ) -> Result<(), AllocError>
     ensures { OnOk result (Notes notes.old notes.new
-        (model.rules_findings (libraries.library base.entry.library.now)
-        (declared base.entry.declared.now) (steps place.now) 0 (map rule rules.now))) }
+        (model.rules_findings (bases.library base.entry)
+        (bases.declared base.entry) (steps place.now) 0 (map rule rules.now))) }
 {
     for (n, rule) in rules.iter().enumerate() {
         find_in_rule(base, base.declared.is_fired(n), &place.item(n), rule, notes)?;

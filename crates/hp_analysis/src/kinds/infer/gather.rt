@@ -1,20 +1,23 @@
 //! What rules and transactions say of the arguments of signals.
 
-use crate::kinds::columns::Columns;
 use crate::kinds::declaration::Declaration;
 use crate::kinds::expr::row_field_sort;
-use crate::kinds::infer::arguments::{Arguments, Flow, Origin};
+use crate::kinds::infer::arguments::{Arguments, Flow, Origin, Read};
+use crate::kinds::occurred::Occurred;
 use crate::kinds::part::{Reading, fields_of, kind_in, read_sort};
 use crate::kinds::rows::{Rows, first_class};
-use crate::kinds::rule::Base;
-use crate::kinds::scope::Scope;
+use crate::kinds::scope::{Base, Scope};
 use crate::kinds::sort::{Sort, kind_of};
 use crate::kinds::sorts::Sorts;
 use hp_event::Pattern;
 use hp_query::{Aggregate, Entry, Query};
 use hp_rule::{Assignment, EventExpr, Library, Rule, Stmt, Unit};
-use hp_value::{ClassNo, Expr, Kind};
+use hp_value::{ClassNo, Expr, Field, Kind};
 use std::alloc::{AllocError, Global};
+use std::collections::BTreeMap;
+
+/// The most fields of a class, and the most arguments of a signal.
+const MOST: usize = 32;
 
 /// What was gathered so far.
 #[derive(Debug, Drop)]
@@ -22,27 +25,53 @@ pub(crate) struct Gathering {
     alloc: Global,
     pub arguments: Arguments,
     // The values in scope, the innermost last.
-    values: Vec<NamedOrigins>,
+    values: Vec<NamedOrigin>,
+    // What the rule was seen to read of its parts, by `slot`.
+    reads: BTreeMap<usize, Option<Origin>>,
 }
 
-/// Where a value that has a name comes from.
+/// Where a value that has a name comes from, as far as it is known.
 #[derive(Debug, Drop)]
-struct NamedOrigins {
+struct NamedOrigin {
     name: String,
-    origins: Vec<Origin>,
-}
-
-/// One origin.
-fn one(alloc: Global, kind: Kind) -> Result<Vec<Origin>, AllocError> {
-    Ok(vec![in alloc; Origin::Known(kind)]?)
+    origin: Option<Origin>,
 }
 
 /// The origin of a value of this sort, if its kind is known.
-fn of_sort<E: Drop>(alloc: Global, sort: Result<Sort, E>) -> Result<Vec<Origin>, AllocError> {
+fn of_sort<E: Drop>(sort: Result<Sort, E>) -> Option<Origin> {
     match sort {
-        Ok(Sort::Only(kind)) => one(alloc, kind),
-        _ => Ok(Vec::new(alloc)),
+        Ok(Sort::Only(kind)) => Some(Origin::Known(kind)),
+        _ => None,
     }
+}
+
+/// The index of the field of this name.
+fn field_index(fields: &[Field], name: &str) -> Option<usize> {
+    fields
+        .iter()
+        .position(|defined| defined.name.as_str() == name)
+}
+
+/// A number for what is read of a part that the pattern matches; `None` if the pattern has no such value.
+fn slot_in(of: &Library, what: Reading<'_>, matching: &Pattern) -> Option<usize> {
+    match (what, matching) {
+        (Reading::New(name), Pattern::Create(class))
+        | (Reading::New(name), Pattern::Update(class)) => field_index(fields_of(of, *class), name),
+        (Reading::Old(name), Pattern::Update(class))
+        | (Reading::Old(name), Pattern::Delete(class)) => {
+            field_index(fields_of(of, *class), name)?.checked_add(MOST)
+        }
+        (Reading::Argument(place), Pattern::Signal(_)) if (place as usize) < MOST => {
+            Some(place as usize)
+        }
+        _ => None,
+    }
+}
+
+/// A number for what is read of a part, by the first pattern that the part may match.
+fn slot(of: &Library, part: u16, what: Reading<'_>, matching: &[&Pattern]) -> Option<usize> {
+    let inside = slot_in(of, what, matching.first()?)?;
+    (part as usize).checked_mul(2 * MOST)?.checked_add(inside)
 }
 
 impl Gathering {
@@ -57,6 +86,7 @@ impl Gathering {
             alloc,
             arguments: Arguments::new(alloc),
             values: Vec::new(alloc),
+            reads: BTreeMap::new(alloc),
         };
         for rule in library.rules() {
             gathering.add_signals(&rule.event)?;
@@ -88,26 +118,22 @@ impl Gathering {
         nothing: &Declaration,
         rule: &Rule,
     ) -> Result<(), AllocError> {
-        let columns = Columns::of(self.alloc, &rule.event)?;
         let base = Base {
             alloc: self.alloc,
             library,
             declared: nothing,
         };
-        self.add_parts(base, &columns, rule)
+        let occurred = Occurred::unseen(base, &rule.event)?;
+        self.add_parts(&occurred, rule)
     }
 
-    fn add_parts(
-        &mut self,
-        base: Base<'_>,
-        known: &Columns<'_>,
-        rule: &Rule,
-    ) -> Result<(), AllocError> {
+    fn add_parts(&mut self, occurred: &Occurred<'_>, rule: &Rule) -> Result<(), AllocError> {
+        self.reads = BTreeMap::new(self.alloc);
         self.values.truncate(0);
         for (i, entry) in rule.condition.iter().enumerate() {
-            self.add_next(base, known, &rule.condition[..i], entry)?;
+            self.add_next(occurred, &rule.condition[..i], entry)?;
         }
-        let scope = base.asked(known, &rule.condition, &[]);
+        let scope = occurred.asked(&rule.condition, &[]);
         self.add_body(&rule.action, &scope)?;
         self.values.truncate(0);
         Ok(())
@@ -115,12 +141,11 @@ impl Gathering {
 
     fn add_next(
         &mut self,
-        base: Base<'_>,
-        known: &Columns<'_>,
+        occurred: &Occurred<'_>,
         before: &[Entry],
         next: &Entry,
     ) -> Result<(), AllocError> {
-        let scope = base.asked(known, before, &[]);
+        let scope = occurred.asked(before, &[]);
         self.add_entry(&scope, next)
     }
 
@@ -144,38 +169,38 @@ impl Gathering {
         name: &String,
         aggregate: &Aggregate,
     ) -> Result<(), AllocError> {
-        let origins = self.aggregate_origins(scope, aggregate)?;
+        let origin = self.aggregate_origin(scope, aggregate)?;
         let name = name.clone()?;
-        self.values.push(NamedOrigins { name, origins })?;
+        self.values.push(NamedOrigin { name, origin })?;
         Ok(())
     }
 
     /// Where the value of an aggregate comes from, as far as it is known.
-    fn aggregate_origins(
+    fn aggregate_origin(
         &mut self,
         scope: &Scope<'_>,
         aggregate: &Aggregate,
-    ) -> Result<Vec<Origin>, AllocError> {
+    ) -> Result<Option<Origin>, AllocError> {
         match aggregate {
             Aggregate::Count(rows) => {
                 self.add_test(scope, rows)?;
-                one(self.alloc, Kind::Int)
+                Ok(Some(Origin::Known(Kind::Int)))
             }
             Aggregate::Sum { rows, term } => {
                 self.add_test(scope, rows)?;
                 let inner = scope.bound(rows.name.as_str(), rows.class);
                 self.want(&inner, Kind::Int, term)?;
-                one(self.alloc, Kind::Int)
+                Ok(Some(Origin::Known(Kind::Int)))
             }
             Aggregate::Least { rows, term } | Aggregate::Greatest { rows, term } => {
                 self.add_test(scope, rows)?;
                 let inner = scope.bound(rows.name.as_str(), rows.class);
-                let origins = self.origins(&inner, term)?;
-                self.arguments.note_alike(&origins);
-                Ok(origins)
+                let origin = self.origin_of(&inner, term)?;
+                self.arguments.note_alike(origin, None);
+                Ok(origin)
             }
-            Aggregate::Next(_) => one(self.alloc, Kind::Int),
-            Aggregate::Single(single) => self.origins(scope, single),
+            Aggregate::Next(_) => Ok(Some(Origin::Known(Kind::Int))),
+            Aggregate::Single(single) => self.origin_of(scope, single),
         }
     }
 
@@ -190,6 +215,7 @@ impl Gathering {
             library,
             declared: nothing,
             columns: None,
+            known: &[],
             rows: Rows::Entries(&[]),
             values: Sorts::Found(&[]),
             condition: &[],
@@ -264,7 +290,7 @@ impl Gathering {
             Stmt::Delete { key, .. } | Stmt::With { key, .. } => self.want(scope, Kind::Int, key),
             Stmt::Signal { name, arguments } => self.add_signal(scope, name, arguments),
             Stmt::Emit(value) | Stmt::Veto(Some(value)) => {
-                self.origins(scope, value)?;
+                self.origin_of(scope, value)?;
                 Ok(())
             }
             Stmt::If { condition, .. } => self.want(scope, Kind::Bool, condition),
@@ -304,11 +330,9 @@ impl Gathering {
         given: &[Expr],
     ) -> Result<(), AllocError> {
         for (place, argument) in given.iter().enumerate() {
-            let origins = self.origins(scope, argument)?;
-            if let Some(into) = self.arguments.number(name, place) {
-                for from in &origins {
-                    self.arguments.flows.push(Flow { from: *from, into })?;
-                }
+            let origin = self.origin_of(scope, argument)?;
+            if let (Some(from), Some(into)) = (origin, self.arguments.number(name, place)) {
+                self.arguments.flows.push(Flow { from, into })?;
             }
         }
         Ok(())
@@ -317,12 +341,8 @@ impl Gathering {
     /// Notes that an expression has to have this kind.
     #[cycle(origins)]
     fn want(&mut self, scope: &Scope<'_>, kind: Kind, expr: &Expr) -> Result<(), AllocError> {
-        let origins = self.origins(scope, expr)?;
-        for origin in &origins {
-            if let Origin::Argument(number) = origin {
-                self.arguments.want(*number, Some(kind));
-            }
-        }
+        let origin = self.origin_of(scope, expr)?;
+        self.arguments.want_of(origin, kind);
         Ok(())
     }
 
@@ -334,10 +354,10 @@ impl Gathering {
         kind: Kind,
         left: &Expr,
         right: &Expr,
-    ) -> Result<Vec<Origin>, AllocError> {
+    ) -> Result<Option<Origin>, AllocError> {
         self.want(scope, kind, left)?;
         self.want(scope, kind, right)?;
-        one(self.alloc, kind)
+        Ok(Some(Origin::Known(kind)))
     }
 
     /// Notes that two expressions have to have one kind.
@@ -347,95 +367,115 @@ impl Gathering {
         scope: &Scope<'_>,
         left: &Expr,
         right: &Expr,
-    ) -> Result<Vec<Origin>, AllocError> {
-        let mut origins = self.origins(scope, left)?;
-        let mut others = self.origins(scope, right)?;
-        origins.append(&mut others)?;
-        self.arguments.note_alike(&origins);
-        one(self.alloc, Kind::Bool)
+    ) -> Result<Option<Origin>, AllocError> {
+        let one = self.origin_of(scope, left)?;
+        let other = self.origin_of(scope, right)?;
+        self.arguments.note_alike(one, other);
+        Ok(Some(Origin::Known(Kind::Bool)))
     }
 
     /// Where the value of an expression comes from, as far as it is known.
     #[cycle(origins)]
-    fn origins(&mut self, scope: &Scope<'_>, expr: &Expr) -> Result<Vec<Origin>, AllocError> {
+    fn origin_of(&mut self, scope: &Scope<'_>, expr: &Expr) -> Result<Option<Origin>, AllocError> {
         match expr {
-            Expr::Constant(constant) => one(self.alloc, kind_of(constant.value())),
+            Expr::Constant(constant) => Ok(Some(Origin::Known(kind_of(constant.value())))),
             Expr::Arithmetic(_, a, b) => self.want_both(scope, Kind::Int, a, b),
             Expr::And(a, b) | Expr::Or(a, b) => self.want_both(scope, Kind::Bool, a, b),
             Expr::Comparison(_, a, b) => self.want_alike(scope, a, b),
             Expr::Negated(a) => {
                 self.want(scope, Kind::Int, a)?;
-                one(self.alloc, Kind::Int)
+                Ok(Some(Origin::Known(Kind::Int)))
             }
             Expr::Not(a) => {
                 self.want(scope, Kind::Bool, a)?;
-                one(self.alloc, Kind::Bool)
+                Ok(Some(Origin::Known(Kind::Bool)))
             }
             Expr::FieldOf { variable, field } => {
-                of_sort(self.alloc, row_field_sort(scope, variable, field))
+                Ok(of_sort(row_field_sort(scope, variable, field)))
             }
             Expr::NewField { part, field } => self.read(scope, *part, Reading::New(field)),
             Expr::OldField { part, field } => self.read(scope, *part, Reading::Old(field)),
             Expr::Argument { part, place } => self.read(scope, *part, Reading::Argument(*place)),
-            Expr::ValueOf { name } => self.value_origins(name),
+            Expr::ValueOf { name } => Ok(self.value_origin(name)),
             Expr::KeyOf { .. }
             | Expr::KeyIn { .. }
             | Expr::TimeOf { .. }
             | Expr::Count
-            | Expr::Now => one(self.alloc, Kind::Int),
+            | Expr::Now => Ok(Some(Origin::Known(Kind::Int))),
         }
     }
 
     /// Where the value of a name comes from.
-    fn value_origins(&self, name: &str) -> Result<Vec<Origin>, AllocError> {
-        let mut origins = Vec::new(self.alloc);
+    fn value_origin(&self, name: &str) -> Option<Origin> {
+        let mut origin = None;
         for named in &self.values {
             if named.name.as_str() == name {
-                origins = Vec::from_slice(self.alloc, &named.origins)?;
+                origin = named.origin;
             }
         }
-        Ok(origins)
+        origin
     }
 
-    /// Where what is read of a part comes from: for each pattern that the part may match, an argument or a field.
+    /// Where what is read of a part comes from, if each pattern that the part may match has it.
     fn read(
         &mut self,
         scope: &Scope<'_>,
         part: u16,
         what: Reading<'_>,
-    ) -> Result<Vec<Origin>, AllocError> {
-        let mut origins = Vec::new(self.alloc);
+    ) -> Result<Option<Origin>, AllocError> {
         let Some(columns) = scope.columns else {
-            return Ok(origins);
+            return Ok(None);
         };
-        let Some(patterns) = columns.places.get(part as usize) else {
-            return Ok(origins);
+        let Some(matching) = columns.places.get(part as usize) else {
+            return Ok(None);
         };
-        for matching in patterns {
-            if let Some(origin) = self.origin(scope, what, matching) {
-                origins.push(origin)?;
-            }
+        let Some(slot) = slot(scope.library, part, what, matching) else {
+            return Ok(None);
+        };
+        if let Some(before) = self.reads.get(&slot) {
+            return Ok(*before);
         }
-        Ok(origins)
+        let origin = self.read_among(scope, what, matching)?;
+        self.reads.insert(slot, origin)?;
+        Ok(origin)
     }
 
-    /// Where what is read of a part that matches a pattern comes from. An argument counts as used.
-    fn origin(
+    /// Where what is read of a part comes from, if each of these patterns has it. Arguments count as used.
+    fn read_among(
         &mut self,
         scope: &Scope<'_>,
         what: Reading<'_>,
-        matching: &Pattern,
-    ) -> Option<Origin> {
-        match (what, matching) {
-            (Reading::Argument(place), Pattern::Signal(name)) => {
-                let number = self.arguments.number(name.as_str(), place as usize)?;
-                self.arguments.note_use(number);
-                Some(Origin::Argument(number))
+        matching: &[&Pattern],
+    ) -> Result<Option<Origin>, AllocError> {
+        let mut read = Read::new(self.alloc);
+        for pattern in matching {
+            if !self.is_added(scope, what, pattern, &mut read)? {
+                return Ok(None);
             }
-            _ => match read_sort(scope, what, matching) {
-                Ok(Sort::Only(kind)) => Some(Origin::Known(kind)),
-                _ => None,
-            },
+        }
+        Ok(Some(Origin::Read(self.arguments.add_read(read)?)))
+    }
+
+    /// Adds what is read of a part that matches a pattern, if the pattern has it. Says whether it has.
+    fn is_added(
+        &self,
+        scope: &Scope<'_>,
+        what: Reading<'_>,
+        matching: &Pattern,
+        read: &mut Read,
+    ) -> Result<bool, AllocError> {
+        if let (Reading::Argument(place), Pattern::Signal(name)) = (what, matching) {
+            if let Some(number) = self.arguments.number(name.as_str(), place as usize) {
+                read.arguments.push(number)?;
+                return Ok(true);
+            }
+        }
+        match read_sort(scope.library, scope.declared, what, matching) {
+            Ok(Sort::Only(kind)) => {
+                read.add_field(kind);
+                Ok(true)
+            }
+            _ => Ok(false),
         }
     }
 }

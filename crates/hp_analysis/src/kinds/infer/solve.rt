@@ -1,7 +1,7 @@
 //! The kinds of arguments, by their uses and by what statements give them.
 
 use crate::kinds::declaration::Declaration;
-use crate::kinds::infer::arguments::{Arguments, Flow, MAX_ARGUMENTS, Origin};
+use crate::kinds::infer::arguments::{Arguments, Flow, Given, MAX_ARGUMENTS, Origin};
 use crate::kinds::sort::Sort;
 use hp_value::Kind;
 use std::alloc::{AllocError, Global};
@@ -25,58 +25,16 @@ pub struct Inferred {
     pub unknown: Vec<UnknownArgument>,
 }
 
-/// How often statements give a group of arguments a value of each kind.
-#[derive(Clone, Copy)]
-struct Given {
-    integers: usize,
-    booleans: usize,
-    texts: usize,
-}
-
-impl Given {
-    /// These counts with one more value of a kind.
-    fn with(self, kind: Kind) -> Given {
-        match kind {
-            Kind::Int => Given {
-                integers: self.integers.saturating_add(1),
-                ..self
-            },
-            Kind::Bool => Given {
-                booleans: self.booleans.saturating_add(1),
-                ..self
-            },
-            Kind::Text => Given {
-                texts: self.texts.saturating_add(1),
-                ..self
-            },
-        }
-    }
-
-    /// The kind that is given most often; none if nothing is given.
-    fn most(self) -> Option<Kind> {
-        if self.booleans > self.integers && self.booleans >= self.texts {
-            return Some(Kind::Bool);
-        }
-        if self.texts > self.integers {
-            return Some(Kind::Text);
-        }
-        if self.integers > 0 {
-            return Some(Kind::Int);
-        }
-        None
-    }
-}
-
-/// For each argument, the arguments that statements give as one of its group, listed at the group's first.
+/// For each argument, what is read and given as one of its group, by the readings' numbers; listed at the group's first.
 fn sources(alloc: Global, arguments: &Arguments) -> Result<Vec<Vec<usize>>, AllocError> {
     let mut sources: Vec<Vec<usize>> = Vec::new(alloc);
     for _ in &arguments.known {
         sources.push(Vec::new(alloc))?;
     }
     for flow in &arguments.flows {
-        if let Origin::Argument(from) = flow.from {
+        if let Origin::Read(read) = flow.from {
             if let Some(list) = sources.get_mut(arguments.first(flow.into)) {
-                list.push(from)?;
+                list.push(read)?;
             }
         }
     }
@@ -102,25 +60,58 @@ fn is_weak(arguments: &Arguments, first: usize) -> bool {
     }
 }
 
+/// Opens the groups of the arguments that are read, which weren't known to need one kind.
+fn open_read(
+    arguments: &mut Arguments,
+    read: usize,
+    open: &mut Vec<usize>,
+) -> Result<(), AllocError> {
+    for index in 0..arguments.arguments_in(read) {
+        let Some(number) = arguments.argument_of(read, index) else {
+            return Ok(());
+        };
+        let first = arguments.first(number);
+        if is_weak(arguments, first) {
+            arguments.want(first, None);
+            open.push(first)?;
+        }
+    }
+    Ok(())
+}
+
+/// Opens the groups of what is read by these readings. Each reading is followed once.
+fn open_all(
+    arguments: &mut Arguments,
+    reads: &[usize],
+    followed: &mut [bool],
+    open: &mut Vec<usize>,
+) -> Result<(), AllocError> {
+    for read in reads {
+        let Some(before) = followed.get_mut(*read) else {
+            return Ok(());
+        };
+        if !*before {
+            *before = true;
+            open_read(arguments, *read, open)?;
+        }
+    }
+    Ok(())
+}
+
 /// What is given where one kind is needed has to be of one kind too, and so on.
 fn spread(alloc: Global, arguments: &mut Arguments) -> Result<(), AllocError> {
     let sources = sources(alloc, arguments)?;
     let mut open = strong_groups(alloc, arguments)?;
+    let mut followed = vec![in alloc; false; arguments.reads.len()]?;
     // Each group is opened once.
     for _ in 0..sources.len() {
         let Some(group) = open.pop() else {
             return Ok(());
         };
-        let Some(list) = sources.get(group) else {
+        let Some(reads) = sources.get(group) else {
             return Ok(());
         };
-        for from in list {
-            let first = arguments.first(*from);
-            if is_weak(arguments, first) {
-                arguments.want(first, None);
-                open.push(first)?;
-            }
-        }
+        open_all(arguments, reads, &mut followed, &mut open)?;
     }
     Ok(())
 }
@@ -129,31 +120,36 @@ fn spread(alloc: Global, arguments: &mut Arguments) -> Result<(), AllocError> {
 fn join_flows(alloc: Global, arguments: &mut Arguments) -> Result<(), AllocError> {
     let flows: Vec<Flow> = Vec::from_slice(alloc, &arguments.flows)?;
     for flow in &flows {
-        let first = arguments.first(flow.into);
-        if let Origin::Argument(from) = flow.from {
+        let first = arguments.find_first(flow.into);
+        if let Origin::Read(read) = flow.from {
             if !is_weak(arguments, first) {
-                arguments.join(from, first);
+                arguments.join_read(Some(first), read);
             }
         }
     }
     Ok(())
 }
 
+/// How many values of each kind an origin stands for.
+fn given_by(arguments: &Arguments, origin: Origin) -> Given {
+    match origin {
+        Origin::Known(kind) => Given::nothing().with(kind),
+        Origin::Read(read) => match arguments.reads.get(read) {
+            Some(found) => found.fields,
+            None => Given::nothing(),
+        },
+    }
+}
+
 /// How often statements give each group a value of each kind, listed at the group's first argument.
 fn counts(alloc: Global, arguments: &Arguments) -> Result<Vec<Given>, AllocError> {
     let mut counts = Vec::new(alloc);
     for _ in &arguments.known {
-        counts.push(Given {
-            integers: 0,
-            booleans: 0,
-            texts: 0,
-        })?;
+        counts.push(Given::nothing())?;
     }
     for flow in &arguments.flows {
-        if let Origin::Known(kind) = flow.from {
-            if let Some(given) = counts.get_mut(arguments.first(flow.into)) {
-                *given = given.with(kind);
-            }
+        if let Some(given) = counts.get_mut(arguments.first(flow.into)) {
+            *given = given.and(given_by(arguments, flow.from));
         }
     }
     Ok(counts)
@@ -239,8 +235,10 @@ fn declare(
 /// The declaration that follows from what was gathered.
 pub(crate) fn solved(alloc: Global, gathered: Arguments) -> Result<Inferred, AllocError> {
     let mut arguments = gathered;
+    arguments.settle();
     spread(alloc, &mut arguments)?;
     join_flows(alloc, &mut arguments)?;
+    arguments.settle();
     let counts = counts(alloc, &arguments)?;
     let mut inferred = Inferred {
         declaration: Declaration::new(alloc),

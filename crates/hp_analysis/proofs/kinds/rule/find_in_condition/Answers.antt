@@ -16,10 +16,10 @@ use Rattle.hp_analysis.proofs.kinds.rule.find_in_condition.Goals.{in-Some+in_ok-
 
 pub loop-i-preserved : goal.loop-i-preserved
 loop-i-preserved c =
-    let library = libraries.library c.args.base.library.now in
-    let d = declared c.args.base.declared.now in
+    let library = libraries.library c.args.occurred.now.base.library.now in
+    let d = declared c.args.occurred.now.base.declared.now in
     let path = steps c.args.place.now in
-    let cs = columns c.args.known.now in
+    let cs = columns c.args.occurred.now.columns in
     let es = c.args.entries.now in
     let i = c.loop-i.i in
     let ns = c.loop-i.found.items in

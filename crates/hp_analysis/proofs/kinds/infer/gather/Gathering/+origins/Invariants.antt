@@ -5,8 +5,8 @@ use Rattle.hp_analysis.proofs.kinds.infer.gather.Gathering.+origins.Given as goa
 
 -- three times the number of operators, and more for a call of an operator's own function
 
-abbrev pub decreases-origins : goal.decreases-origins
-decreases-origins l = 3 * operators (expression l.expr.now)
+abbrev pub decreases-origin_of : goal.decreases-origin_of
+decreases-origin_of l = 3 * operators (expression l.expr.now)
 
 abbrev pub decreases-want : goal.decreases-want
 decreases-want l = 3 * operators (expression l.expr.now) + 1
