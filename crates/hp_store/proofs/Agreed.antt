@@ -1,5 +1,5 @@
 -- Whether a list has the objects of a part of a class.
-use Rattle.std.proofs.Common.{◌≡◌, refl, ⊎_elim, ap, ap₂, sym, ◌∙◌, subst, ℕ, zero, suc, ◌<◌, ◌+◌, ℤ, pos, Bool, true, false, ◌&&◌, ◌||◌, List, [], ◌∷◌, map, length, get_or, Option, Some, None, IsTrue, int_eq, Result, Ok, Err, arith}
+use Rattle.std.proofs.Common.{◌≡◌, refl, ⊎_elim, ap, ap₂, sym, ◌∙◌, subst, ℕ, zero, suc, ◌<◌, ◌+◌, ℤ, pos, Bool, true, false, ◌&&◌, ◌||◌, List, [], ◌∷◌, map, length, get_or, Option, Some, None, is_some, option_map, IsTrue, int_eq, Result, Ok, Err, arith}
 use Rattle.std.specs.Prelude.{All}
 use Rattle.std.specs.Ordering.{is_eq, is_lt, int_cmp, ordering_reverse}
 use Rattle.std.specs.Result.{is_ok}
@@ -17,11 +17,11 @@ use Rattle.std.proofs.lemmas.Map.Lookups.{exact_signed}
 use Rattle.hp_model.specs.Values.{Row, Outcome, KeyedRow}
 use Rattle.hp_model.specs.ClassParts.{ClassPart, belongs}
 use Rattle.hp_model.specs.Cells as C
-use Rattle.hp_model.specs.Cells.{object_cell, row_value, Cells, belongs_in, ArePart}
+use Rattle.hp_model.specs.Cells.{object_cell, row_value, Cells, Changes, changed, over, belongs_in, ArePart}
 use Rattle.hp_value.specs.declared.row.KeyedRow.{KeyedRow as Object}
 use Rattle.hp_value.specs.Mapped.{keyed_row, keys_of}
 use Rattle.hp_value.specs.Same.{row_decides}
-use Rattle.hp_store.specs.Parts.{Covers, is_among, says, agrees_at, holds_row, is_shown}
+use Rattle.hp_store.specs.Parts.{Covers, is_among, says, agrees_at, holds_row, is_shown, IsMember, IsRowAmong}
 use Rattle.hp_store.proofs.Cells.{int_at}
 use Rattle.hp_store.proofs.Based.{no_keys_rise}
 
@@ -225,6 +225,26 @@ key_listed objects key k (Ok i) b is same rise within found = is ∙ key_at key 
 key_listed objects key k (Err i) b is same rise within found =
     let split = found (searchable_from_sorted int_cmp_total (λ (o : Object). o.key) objects k (falls objects rise)) in
     is ∙ key_missed key objects i (λ n d low high. ap (int_cmp (get_or objects n d).key) (sym same) ∙ split.0 n d low high) (λ n d low high. ap (int_cmp (get_or objects n d).key) (sym same) ∙ split.1 n d low high)
+
+-- the row at a place of the objects
+pub row_at : (objects : List Object) (i : ℕ) (object : Object) (key : ℤ) → i < length objects → object ≡ get_or objects i object → object.key ≡ key → IsRowAmong (map keyed_row objects) key (Some object.row)
+row_at objects i object key within is same =
+    (i, subst (λ n. i < n) (sym (length-map objects keyed_row)) within,
+    λ d. get_or-map keyed_row objects i object d within ∙ ap keyed_row (sym is) ∙ ap (λ k. record { key = k; row = object.row }) same)
+
+pub none_of : {A B : Type 0} (f : A → B) (o : Option A) → is_some o ≡ false → option_map f o ≡ None
+none_of f None h = refl
+none_of f (Some a) h = cc
+
+-- an object that a layer doesn't name
+pub member_beneath : (cells : Cells) (layer : Changes) (p : ClassPart) (class : ℕ) (objects : List KeyedRow) (key : ℤ) (found : Option Row) → ArePart cells class p objects → layer (object_cell class key) ≡ None
+    → IsRowAmong objects key found → IsMember p key (over cells layer (object_cell class key)) found
+member_beneath cells layer p class objects key None are unnamed among =
+    ap (λ c. belongs_in p key (changed (cells (object_cell class key)) c)) unnamed ∙ are.has key ∙ ap Ok among
+member_beneath cells layer p class objects key (Some row) are unnamed (i, within, is) =
+    let object : KeyedRow = record { key = key; row = row } in
+    let shown : IsShown cells p class object = subst (IsShown cells p class) (is object) (shown_of_part cells p class objects are i object within) in
+    (ap (changed (cells (object_cell class key))) unnamed ∙ shown.0, shown.1)
 
 -- ---- keys that rise
 

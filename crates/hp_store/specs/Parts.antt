@@ -1,5 +1,5 @@
 -- Keys of a class among which a part's objects are looked for.
-use Rattle.std.specs.Prelude.{◌≡◌, ◌&&◌, ℕ, ℤ, Bool, false, true, List, [], ◌∷◌, ◌++◌, map, Option, Some, None, Ok, Err, if◌then◌else◌, not}
+use Rattle.std.specs.Prelude.{◌≡◌, ◌<◌, ◌&&◌, ℕ, ℤ, Bool, false, true, List, [], ◌∷◌, ◌++◌, length, slice_index_or, map, Option, Some, None, Ok, Err, if◌then◌else◌, not}
 use Rattle.std.specs.Ordering.{int_cmp, int_eq}
 use Rattle.std.specs.BTreeMap.Range.{range_contains}
 use Rattle.std.specs.List.{list_any}
@@ -90,3 +90,8 @@ IsMember p key v (Some row) = (v ≡ Some (row_value row)) × (belongs p (record
 abbrev pub with_member : List KeyedRow → ℤ → Option Row → List KeyedRow
 with_member objects key None = objects
 with_member objects key (Some row) = objects ++ record { key = key; row = row } ∷ []
+
+-- the row of the object with a key among some objects
+abbrev pub IsRowAmong : List KeyedRow → ℤ → Option Row → Type 0
+IsRowAmong objects key None = is_among (map (λ (o : KeyedRow). o.key) objects) key ≡ false
+IsRowAmong objects key (Some row) = (i : ℕ) × (i < length objects) × ((d : KeyedRow) → slice_index_or objects i d ≡ record { key = key; row = row })

@@ -5,13 +5,13 @@ ghost use Rattle.std.specs.Prelude.{IfOk, IfSome, OnOk, option_map};
 ghost use Rattle.std.specs.List.{list_all};
 ghost use Rattle.std.specs.List.Sorted.{IsStrictlySortedBy};
 ghost use Rattle.std.specs.Ordering.{int_cmp};
-ghost use Rattle.hp_model.specs.Cells.{ArePart, belongs_in, object_cell, over};
+ghost use Rattle.hp_model.specs.Cells.{ArePart, Cells, belongs_in, object_cell, over};
 ghost use Rattle.hp_value.specs.Mapped as mapped;
 ghost use Rattle.hp_value.specs.Mapped.{keys_of, outcome};
 ghost use Rattle.hp_store.specs.Changes.{changes, changes_in};
 ghost use Rattle.hp_store.specs.Mapped as here;
 ghost use Rattle.hp_store.specs.Parts.{keys_left, Covers, agrees_at, is_of_keys, is_shown, is_among, no_cells};
-ghost use Rattle.hp_store.specs.Parts.{IsMember, with_member};
+ghost use Rattle.hp_store.specs.Parts.{IsMember, IsRowAmong, with_member};
 ghost use Rattle.hp_store.specs.Stack.{cells_in};
 
 use crate::candidates::Candidates;
@@ -60,6 +60,34 @@ impl Snapshot {
         sort(&mut keys);
         let found = self.picked(alloc, writes, class, part, &keys)?;
         Ok(found)
+    }
+
+    /// The objects of a part of a class, as `part_over` finds them, where those beneath the layer are known.
+    pub fn part_above(
+        &self,
+        alloc: Global,
+        writes: &Layer,
+        class: ClassNo,
+        part: &ClassPart<'_>,
+        beneath: &[KeyedRow],
+    ) -> Result<Option<Vec<KeyedRow>>, AllocError>
+        requires { ArePart (cells_in self.now) class (mapped.class_part part.now) (map mapped.keyed_row beneath.now) }
+        ensures part { IfOk result (λ found. IfSome found (λ objects.
+            ArePart (over (cells_in self.now) (changes writes.now)) class (mapped.class_part part.now)
+            (map mapped.keyed_row objects.items))) }
+        ensures found { is_of_keys part.now ≡ true → IfOk result (λ found. IsSome found) }
+    {
+        let mut keys = keys_above(alloc, writes, class, part, beneath)?;
+        sort(&mut keys);
+        let mut objects = Vec::new(alloc);
+        for key in &keys {
+            let tested = self.member_above(writes, class, part, beneath, *key)?;
+            let Ok(member) = tested else {
+                return Ok(None);
+            };
+            add_member(&mut objects, *key, member)?;
+        }
+        Ok(Some(objects))
     }
 
     /// Whether these are the objects of a part of a class by rising keys, once a layer has been written over the cells.
@@ -156,6 +184,30 @@ impl Snapshot {
             Ok(true) => Ok(Ok(Some(row.clone()?))),
             Ok(false) => Ok(Ok(None)),
             Err(cause) => Ok(Err(cause)),
+        }
+    }
+
+    // The row of the object with a key, as `member` finds it, where the objects beneath the writes are known.
+    fn member_above(
+        &self,
+        writes: &Layer,
+        class: ClassNo,
+        part: &ClassPart<'_>,
+        beneath: &[KeyedRow],
+        key: Key,
+    ) -> Result<Result<Option<Row>, Cause>, AllocError>
+        requires { ArePart (cells_in self.now) class (mapped.class_part part.now) (map mapped.keyed_row beneath.now) }
+        ensures member { IfOk result (λ tested. IfOk tested (λ member.
+            IsMember (mapped.class_part part.now) key
+            (over (cells_in self.now) (changes writes.now) (object_cell class key)) member)) }
+        ensures compares { is_of_keys part.now ≡ true → IfOk result (λ tested. IsOk tested) }
+    {
+        if writes.get(Cell::Object(class, key)).is_some() {
+            return self.member(writes, class, part, key);
+        }
+        match row_among(beneath, key) {
+            Some(row) => Ok(Ok(Some(row.clone()?))),
+            None => Ok(Ok(None)),
         }
     }
 
@@ -333,6 +385,45 @@ fn lists(objects: &[KeyedRow], key: Key) -> bool
     objects
         .binary_search_by_key(&key, |object| object.key)
         .is_ok()
+}
+
+// The row of the object with a key, if it is one of the objects.
+fn row_among(objects: &[KeyedRow], key: Key) -> Option<&Row>
+    requires { IsStrictlySortedBy int_cmp (keys_of (map mapped.keyed_row objects.now)) }
+    ensures { IsRowAmong (map mapped.keyed_row objects.entry.now) key (option_map (λ r. r.now) result) }
+{
+    match objects.binary_search_by_key(&key, |object| object.key) {
+        Ok(i) => Some(&objects[i].row),
+        Err(_) => None,
+    }
+}
+
+// Keys among which all objects of a part are once a layer has been written over those that are known.
+fn keys_above(
+    alloc: Global,
+    writes: &Layer,
+    class: ClassNo,
+    part: &ClassPart<'_>,
+    beneath: &[KeyedRow],
+) -> Result<Vec<Key>, AllocError>
+    ensures { IfOk result (λ keys. (cells : Cells) →
+        ArePart cells class (mapped.class_part part.now) (map mapped.keyed_row beneath.now) →
+        Covers (is_among keys.items) (mapped.class_part part.now) class (over cells (changes writes.now))) }
+{
+    let mut keys = listed_keys(alloc, beneath)?;
+    add(&mut keys, writes.candidates(class, part))?;
+    Ok(keys)
+}
+
+// The keys of objects.
+fn listed_keys(alloc: Global, objects: &[KeyedRow]) -> Result<Vec<Key>, AllocError>
+    ensures { IfOk result (λ keys. keys.items ≡ keys_of (map mapped.keyed_row objects.now)) }
+{
+    let mut keys = Vec::with_capacity(alloc, objects.len())?;
+    for object in objects {
+        keys.push(object.key)?;
+    }
+    Ok(keys)
 }
 
 // Adds keys to others.
