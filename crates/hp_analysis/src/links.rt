@@ -183,7 +183,7 @@ fn statement_link(
     }
 }
 
-/// The same of the statements of a body.
+/// The first link from a statement of a body to the target, if there is one.
 #[cycle(linking)]
 pub(crate) fn body_link(
     body: &[Stmt],

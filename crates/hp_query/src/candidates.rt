@@ -55,7 +55,7 @@ pub(crate) enum Candidates {
     One(Option<KeyedRow>),
     /// The rows of the part that the predicate asks for.
     Part(Vec<KeyedRow>),
-    /// The same, where the predicate says no more: it is true of each of these rows.
+    /// The rows of the part that the predicate asks for, of each of which it is known to be true.
     Selected(Vec<KeyedRow>),
     /// All rows.
     All(Arc<ObjectList>),

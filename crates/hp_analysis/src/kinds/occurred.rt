@@ -52,7 +52,7 @@ impl<'a> Occurred<'a> {
         })
     }
 
-    /// The same of a rule that no statement fires, before any reading was looked at.
+    /// What occurs for a rule that no statement fires. No reading has been looked at yet.
     pub(crate) fn unseen(base: Base<'a>, expr: &'a EventExpr) -> Result<Occurred<'a>, AllocError> {
         let columns = Columns::of(base.alloc, expr)?;
         Ok(Occurred {

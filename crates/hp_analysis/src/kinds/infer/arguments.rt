@@ -211,7 +211,7 @@ impl Arguments {
         first
     }
 
-    /// The same. Later searches are shorter.
+    /// Finds the first argument of the group of an argument, and shortens the paths that it followed.
     pub(crate) fn find_first(&mut self, number: usize) -> usize {
         let mut first = number;
         while let Some(argument) = self.known.get(first) {
