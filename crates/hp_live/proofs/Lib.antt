@@ -1,3 +1,4 @@
 pub mod Bases
 pub mod Fed
 pub mod Asked
+pub mod Replied

@@ -8,8 +8,10 @@ mod base;
 mod options;
 mod server;
 mod serving;
+mod session;
 
 pub use hp_report::{Fault, Status, exit_code};
 pub use options::Options;
-pub use server::Server;
+pub use server::{Outcome, Server};
 pub use serving::{run, serve};
+pub use session::Session;

@@ -9,6 +9,7 @@ ghost use Rattle.hp_lines.specs.Lines.{begun};
 ghost use Rattle.hp_lines.specs.Live as L;
 ghost use Rattle.hp_live.specs.Ends.{status_at};
 ghost use Rattle.hp_live.specs.Kept.{StandsFor, IsStage, IsServer, manner, bytes_of, Answers, FirstAnswers};
+ghost use Rattle.hp_live.specs.Outcomes.{Replies};
 
 use crate::base::RuleBase;
 use crate::options::Options;
@@ -30,6 +31,24 @@ pub(crate) enum Stage {
     Up(RuleBase),
     /// The script was refused, and nothing more is answered.
     Closed,
+}
+
+/// What became of a line.
+#[derive(Clone, Copy, Debug, PartialEq, Eq)]
+pub enum Outcome {
+    /// It was a script or an item and has run, or what it asks for is shown.
+    Done,
+    /// It was refused. The answer says why.
+    Refused,
+    /// The script was refused before, and there is no answer.
+    Closed,
+}
+
+/// The answer to a line.
+#[derive(Drop)]
+pub(crate) struct Reply {
+    pub text: String,
+    pub outcome: Outcome,
 }
 
 /// Collects the bytes of lines and answers each line. It drops the reports of a line's units after the answer is
@@ -70,13 +89,16 @@ fn open<T: Workers>(
     alloc: Global,
     line: &[u8],
     options: Options,
-) -> Result<(String, Stage), AllocError>
+) -> Result<(Reply, Stage), AllocError>
     requires ready { T.ready workers.now }
-    ensures { IfOk result (λ opened. Answers opened.0 opened.1 (L.answer (manner options) L.unopened line.now)) }
+    ensures { IfOk result (λ opened. Replies opened.0 opened.1 (manner options) L.unopened line.now) }
 {
     match read_script(alloc, line, options.text) {
-        Ok(script) => open_by(workers, alloc, script, options),
-        Err(Unread::Refused(refusal)) => Ok((refusal, Stage::Closed)),
+        Ok(script) => {
+            let (text, stage) = open_by(workers, alloc, script, options)?;
+            Ok((Reply::done(text), stage))
+        }
+        Err(Unread::Refused(refusal)) => Ok((Reply::refused(refusal), Stage::Closed)),
         Err(Unread::Memory) => Err(AllocError),
     }
 }
@@ -88,10 +110,10 @@ fn answer_later<T: Workers>(
     base: &mut RuleBase,
     line: &[u8],
     options: Options,
-) -> Result<String, AllocError>
+) -> Result<Reply, AllocError>
     requires ready { T.ready workers.now }
-    ensures { IfOk result (λ text. (now : L.RuleBase) →
-        StandsFor base.old now → Answers text (Stage.Up base.new) (L.answer (manner options) (L.up now) line.now)) }
+    ensures { IfOk result (λ reply. (now : L.RuleBase) →
+        StandsFor base.old now → Replies reply (Stage.Up base.new) (manner options) (L.up now) line.now) }
 {
     match read_request(
         alloc,
@@ -101,33 +123,62 @@ fn answer_later<T: Workers>(
         line,
         options.text,
     ) {
-        Ok(Request::Item(schedule)) => base.run(workers, alloc, schedule, options),
-        Ok(Request::Show(excerpt)) => base.show(alloc, excerpt),
-        Err(Unread::Refused(refusal)) => Ok(refusal),
+        Ok(Request::Item(schedule)) => {
+            Ok(Reply::done(base.run(workers, alloc, schedule, options)?))
+        }
+        Ok(Request::Show(excerpt)) => Ok(Reply::done(base.show(alloc, excerpt)?)),
+        Err(Unread::Refused(refusal)) => Ok(Reply::refused(refusal)),
         Err(Unread::Memory) => Err(AllocError),
     }
 }
 
 /// Answers a line, and changes the stage. After an error some of what the line asks for may have happened.
-fn answer_at<T: Workers>(
+pub(crate) fn answer_at<T: Workers>(
     workers: &T,
     alloc: Global,
     stage: &mut Stage,
     line: &[u8],
     options: Options,
-) -> Result<String, AllocError>
+) -> Result<Reply, AllocError>
     requires ready { T.ready workers.now }
-    ensures { IfOk result (λ text. (now : L.Stage) →
-        IsStage stage.old now → Answers text stage.new (L.answer (manner options) now line.now)) }
+    ensures { IfOk result (λ reply. (now : L.Stage) →
+        IsStage stage.old now → Replies reply stage.new (manner options) now line.now) }
 {
     match stage {
         Stage::Unopened => {
-            let (text, opened) = open(workers, alloc, line, options)?;
+            let (reply, opened) = open(workers, alloc, line, options)?;
             *stage = opened;
-            Ok(text)
+            Ok(reply)
         }
         Stage::Up(base) => answer_later(workers, alloc, base, line, options),
-        Stage::Closed => Ok(String::new(alloc)),
+        Stage::Closed => Ok(Reply {
+            text: String::new(alloc),
+            outcome: Outcome::Closed,
+        }),
+    }
+}
+
+impl Reply {
+    /// What a line asks for has happened.
+    fn done(text: String) -> Reply
+        ensures text { result.text ≡ text }
+        ensures outcome { result.outcome ≡ Outcome.Done }
+    {
+        Reply {
+            text,
+            outcome: Outcome::Done,
+        }
+    }
+
+    /// A line was refused.
+    fn refused(text: String) -> Reply
+        ensures text { result.text ≡ text }
+        ensures outcome { result.outcome ≡ Outcome.Refused }
+    {
+        Reply {
+            text,
+            outcome: Outcome::Refused,
+        }
     }
 }
 
@@ -220,9 +271,9 @@ impl Server {
         ensures text { IfOk result (λ text. (s : L.Server) → IsServer self.old s → string_bytes text ≡ L.reply s) }
         ensures next { OnOk result ((s : L.Server) → IsServer self.old s → IsServer self.new (L.answered s)) }
     {
-        let text = answer_at(workers, alloc, &mut self.stage, &self.line, self.options)?;
+        let reply = answer_at(workers, alloc, &mut self.stage, &self.line, self.options)?;
         self.line.clear();
-        Ok(text)
+        Ok(reply.text)
     }
 
     /// Writes the answer to the collected line to a device.
