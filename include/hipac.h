@@ -44,8 +44,8 @@ enum {
 int32_t hipac_open(const uint8_t *script, size_t script_length, uint32_t options, hipac_base *base,
                    const uint8_t **answer, size_t *length);
 
-/* Answers a line, which is given without the line feed that ends it. The answer is what hipac-live writes for it. A line
-   feed inside is part of the line, as in a script's file; hipac-live would cut the line there. After HIPAC_MEMORY
+/* Answers a line, which is given without the line feed that ends it. The answer is what hipac-live writes for it. A
+   line feed inside is part of the line, as in a script's file; hipac-live would cut the line there. After HIPAC_MEMORY
    `*answer` is null and `*length` is 0; some of what the line asks for may have happened, and the base is only there to
    be closed. After HIPAC_CLOSED there is no answer either: `*length` is 0. */
 int32_t hipac_line(hipac_base *base, const uint8_t *line, size_t line_length, const uint8_t **answer, size_t *length);
