@@ -53,9 +53,9 @@ int32_t hipac_line(hipac_base *base, const uint8_t *line, size_t line_length, co
 /* Answers the line that asks for the whole state: ["show"], or show in the notation. */
 int32_t hipac_show(hipac_base *base, const uint8_t **answer, size_t *length);
 
-/* Answers the line that asks for one object: ["show","CLASS",KEY], or show CLASS(KEY) in the notation. The name of the
-   class stands in the line as it is given, and is refused as the line is. The answer has the object's line, if the
-   object exists, and then the line `ok N`. */
+/* Answers the line that asks for one object, ["show","CLASS",KEY]. It is read as JSON also where the other lines are
+   text, since the notation has no such line; so a refusal of it is one of JSON, too. The name of the class stands in
+   the line as it is given. The answer has the object's line, if the object exists, and then the line `ok N`. */
 int32_t hipac_get(hipac_base *base, const uint8_t *class_name, size_t class_length, int64_t key,
                   const uint8_t **answer, size_t *length);
 
