@@ -7,7 +7,8 @@
    - There is one call at a time with each handle, and all calls with it come from one thread.
    - No pointer is null, also where its length is 0, and what they point to doesn't overlap.
    - A line, and the name of a class, doesn't lie in an answer of the base that it is for.
-   - malloc, realloc and free are those of one allocator.
+   - malloc, realloc and free are those of one allocator, and align a block as C requires.
+   - No call is made from a signal handler, or in the forked child of a process with threads.
    An answer's bytes lie at their pointer until the next call with that handle, which may free them. They belong to the
    base, aren't written by the caller, and don't end with a zero byte. */
 #ifndef HIPAC_H
