@@ -80,6 +80,15 @@ fn tell_nothing(answer: &mut *const u8, length: &mut usize)
     *length = 0;
 }
 
+/// Says that the handle has no base. The result is the status.
+fn tell_closed(answer: &mut *const u8, length: &mut usize) -> i32
+    ensures nothing { Nothing answer.new length.new }
+    ensures status { result ≡ code Outcome.Closed }
+{
+    tell_nothing(answer, length);
+    CLOSED
+}
+
 /// Says what came of a line, and where its answer is. The result is the status.
 fn tell(
     base: &Session,
@@ -160,10 +169,7 @@ pub extern "C" fn hipac_line(
             handle.put(alloc, base);
             status
         }
-        None => {
-            tell_nothing(answer, length);
-            CLOSED
-        }
+        None => tell_closed(answer, length),
     }
 }
 
@@ -185,10 +191,7 @@ pub extern "C" fn hipac_show(
             handle.put(alloc, base);
             status
         }
-        None => {
-            tell_nothing(answer, length);
-            CLOSED
-        }
+        None => tell_closed(answer, length),
     }
 }
 
@@ -212,10 +215,7 @@ pub extern "C" fn hipac_get(
             handle.put(alloc, base);
             status
         }
-        None => {
-            tell_nothing(answer, length);
-            CLOSED
-        }
+        None => tell_closed(answer, length),
     }
 }
 
@@ -241,10 +241,7 @@ pub extern "C" fn hipac_again(
             handle.put(alloc, base);
             status
         }
-        None => {
-            tell_nothing(answer, length);
-            CLOSED
-        }
+        None => tell_closed(answer, length),
     }
 }
 
