@@ -12,6 +12,8 @@ returns-in-Some c =
     subst (λ (k : ℤ). Answered (λ base outcome m now. GaveBy (in_json m) base outcome m now (get_line c.args.class.now k))
       c.args.handle.now.kept c.put.new.self.kept c.tell-status.new.answer c.tell-status.new.length (to_z w32 (of_z w32 c.tell-status.result)))
     (to_z-of_z w64 c.args.key c.ranges.key)
-    (answered (λ base outcome m now. GaveBy (in_json m) base outcome m now (get_line c.args.class.now key)) _ _ _ _ _ _ _ _ _ c.tell-status.result _
+    (answered (λ base outcome m now. GaveBy (in_json m) base outcome m now (get_line c.args.class.now key))
+    c.args.handle.now.kept c.put.new.self.kept c.in-Some.base.value c.deref_mut.result.now c.get-came.new.self c.deref.result.now
+    c.get-came.result c.tell-status.new.answer c.tell-status.new.length c.tell-status.result (to_z w32 (of_z w32 c.tell-status.result))
     c.in-Some.ensures.taken c.deref_mut.ensures.value c.put.ensures c.deref.ensures (to_z-of_z w32 c.tell-status.result fits)
     c.get-came.ensures.answer c.get-came.ensures.once c.get-came.ensures.lost c.tell-status.ensures)
