@@ -52,9 +52,21 @@ fn the_answers_are_those_to_the_lines(rt: HostRuntime) -> Result<(), Fail> {
 #[test]
 fn each_line_becomes_something(rt: HostRuntime) -> Result<(), Fail> {
     let (mut session, opened) = Session::open(rt.alloc(), NOTATION.as_bytes(), TEXT)?;
-    expect(&rt, &session, opened, Outcome::Done, "unit 1 committed\nok 1\n")?;
+    expect(
+        &rt,
+        &session,
+        opened,
+        Outcome::Done,
+        "unit 1 committed\nok 1\n",
+    )?;
     let became = session.line(rt.alloc(), b"transaction { update acct(1) set bal = 7 }")?;
-    expect(&rt, &session, became, Outcome::Done, "unit 2 committed\nok 2\n")?;
+    expect(
+        &rt,
+        &session,
+        became,
+        Outcome::Done,
+        "unit 2 committed\nok 2\n",
+    )?;
     let became = session.line(rt.alloc(), b"transaction { update nothing(1) set bal = 1 }")?;
     expect(&rt, &session, became, Outcome::Refused, "refused S4 1:22\n")?;
     let became = session.show(rt.alloc())?;
@@ -66,7 +78,13 @@ fn each_line_becomes_something(rt: HostRuntime) -> Result<(), Fail> {
 fn an_object_is_asked_for_in_json(rt: HostRuntime) -> Result<(), Fail> {
     let (mut session, _) = Session::open(rt.alloc(), NOTATION.as_bytes(), TEXT)?;
     let became = session.get(rt.alloc(), b"acct", 1)?;
-    expect(&rt, &session, became, Outcome::Done, "object acct 1 bal=5\nok 1\n")?;
+    expect(
+        &rt,
+        &session,
+        became,
+        Outcome::Done,
+        "object acct 1 bal=5\nok 1\n",
+    )?;
     let became = session.get(rt.alloc(), b"acct", i64::MIN)?;
     let least = "object acct -9223372036854775808 bal=6\nok 1\n";
     expect(&rt, &session, became, Outcome::Done, least)?;
