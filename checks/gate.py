@@ -114,7 +114,7 @@ USED = {
 def run(script, words):
     return SimpleNamespace(status=0, output="final\\nend\\n", errors="")
 """,
-    "clients/python/hipac_live.py": 'PROGRAM = ("true",)\n',
+    "clients/python/hipac/__init__.py": 'PROGRAM = ("true",)\nHipacError, find_library = Exception, str\n',
     "clients/python/tests/__init__.py": "",
     "editors/tests/__init__.py": "",
 }
