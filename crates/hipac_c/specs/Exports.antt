@@ -5,9 +5,10 @@
 --     Opened s o x p n r          the base x after a script s under the options o, its answer and the status
 --     Answered gave x y p n r     the base x is y after a line, with its answer and the status; gave says what y keeps
 --     Again x p n r               the base x shows its answer
-use Rattle.std.specs.Prelude.{◌≡◌, ℕ, ℤ, pos, ◌⊎◌, ◌==◌, List, length, true, false, Result, Ok, Err, AllocError, if◌then◌else◌}
+use Rattle.std.specs.Prelude.{◌≡◌, ℕ, ℤ, pos, ◌⊎◌, ◌==◌, List, length, true, false, Result, Ok, Err, if◌then◌else◌}
 use Rattle.std.specs.Vec.{vec_ptr}
 use denote.RawPtr.{Ptr, null_ptr}
+use Rattle.std.specs.declared.alloc.AllocError.{AllocError}
 use Rattle.std.specs.declared.option.Option.{Option}
 use Rattle.std.specs.declared.option.Option.TheVariants.{None, Some}
 use Rattle.hp_lines.specs.Live as L

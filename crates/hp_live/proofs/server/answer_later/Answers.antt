@@ -36,5 +36,6 @@ returns-in-Err-Refused g c now stands =
     let line = c.in-Err-Refused.refusal in
     let read : request_in c.args.options.text (version_view kept.version) (library kept.library.value) kept.clock c.args.line.now ≡ Err (string_bytes line) =
     rw c.in-Err-Refused.field-0-is at c.in-Err-Refused.ensures.reads in
-    replied c.refused.result line kept kept (manner c.args.options) now c.args.line.now (Err (string_bytes line)) stands read (c.refused.ensures.text ∙ c.in-Err-Refused.refusal-is) c.refused.ensures.outcome
+    replied c.refused.result line kept kept (manner c.args.options) now c.args.line.now (Err (string_bytes line)) stands read
+    (c.refused.ensures.text ∙ c.in-Err-Refused.refusal-is) c.refused.ensures.outcome
     (answers_refusal line kept (manner c.args.options) now c.args.line.now stands read)

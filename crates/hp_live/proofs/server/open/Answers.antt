@@ -8,7 +8,8 @@ use Rattle.hp_live.proofs.server.open.Goals as goal
 pub returns-in_ok-text-in-Ok : goal.returns-in_ok-text-in-Ok
 returns-in_ok-text-in-Ok g c =
     let read : timed_script_in c.args.options.text c.args.line.now ≡ Ok (timed_script c.in-Ok.script) = rw c.in-Ok.script-is at c.in-Ok.ensures.timed in
-    replied_first c.done.result c.in_ok-text-in-Ok.text c.in_ok-text-in-Ok.stage (manner c.args.options) c.args.line.now (Ok (timed_script c.in-Ok.script)) read c.done.ensures.text c.done.ensures.outcome
+    replied_first c.done.result c.in_ok-text-in-Ok.text c.in_ok-text-in-Ok.stage (manner c.args.options) c.args.line.now (Ok
+    (timed_script c.in-Ok.script)) read c.done.ensures.text c.done.ensures.outcome
     (c.in_ok-text-in-Ok.ensures c.args.line.now read)
 
 pub returns-in-Err-Refused : goal.returns-in-Err-Refused
