@@ -16,6 +16,7 @@ The last line is 'N passed, M failed'.
 from __future__ import annotations
 
 import argparse
+import functools
 import importlib.util
 import json
 import os
@@ -23,6 +24,7 @@ import shutil
 import subprocess
 import sys
 import tempfile
+import zipfile
 from collections.abc import Callable, Iterator
 from dataclasses import dataclass
 from types import ModuleType
@@ -57,7 +59,11 @@ WAYS: dict[str, tuple[list[str], list[str]]] = {
     "with AddressSanitizer": (["-fsanitize=address"], []),
 }
 
-# Fewer of all under valgrind, which takes some 50 times as long.
+# Each with these words and without them.
+TREES: list[list[str]] = [[], ["--tree"]]
+STATIC: list[list[str]] = [[], ["-static"]]
+
+# So many times fewer lines under valgrind, which takes some 50 times as long.
 FEWER = {"under valgrind": 20}
 
 
@@ -93,14 +99,24 @@ def header() -> None:
     expect(sorted(library.exports()), sorted(exported), "the functions of the header, and those of the crate")
 
 
+def install_client(source: str, target: str) -> None:
+    """Installs the client as pip does, or by what pip calls if there is no pip."""
+    if importlib.util.find_spec("pip"):
+        run([sys.executable, "-m", "pip", "install", "-q", "--no-index", "--disable-pip-version-check",
+             "--root-user-action=ignore", "--no-compile", "--target", target, source])
+        return
+    os.makedirs(target)
+    name = run([sys.executable, "-c", f"import packing; print(packing.build_wheel({target!r}))"], cwd=source).strip()
+    with zipfile.ZipFile(os.path.join(target, name)) as wheel:
+        wheel.extractall(target)
+
+
 def packed() -> None:
-    """pip installs the client without a network, and the installed one is what lies here."""
+    """The client is installed without a network, and the installed one is what lies here."""
     with tempfile.TemporaryDirectory(prefix="hipac-pip-") as room:
         source, target = os.path.join(room, "source"), os.path.join(room, "target")
         shutil.copytree(os.path.join(TOP, "clients", "python"), source, ignore=shutil.ignore_patterns("__pycache__"))
-        words = [sys.executable, "-m", "pip", "install", "-q", "--no-index", "--disable-pip-version-check",
-                 "--root-user-action=ignore", "--no-compile", "--target", target, source]
-        run(words)
+        install_client(source, target)
         names = sorted(name for name in os.listdir(os.path.join(source, "hipac")))
         expect(sorted(os.listdir(os.path.join(target, "hipac"))), names, "the installed files")
         text = "import hipac, hipac_live; print(hipac.__file__, hipac_live.RuleBase.__name__)"
@@ -178,7 +194,7 @@ def session(them: Libraries, seed: int) -> None:
     """The same bytes from hipac_live, from the library in C, and from the client for Python."""
     made = SessionMaker(seed)
     first, later = made.input()
-    for tree in ([], ["--tree"]):
+    for tree in TREES:
         wanted = by_pipe([*them.live, "--workers", "1", *tree], first + later)
         program = compiled(them, "session.c", "session", [])
         expect(by_pipe([program, *tree], first + later), wanted, "status, answers and standard error from C")
@@ -224,7 +240,7 @@ def installed(them: Libraries) -> None:
     words = run(["pkg-config", "--cflags", "--libs", "hipac"], env=places).split()
     made, wanted = os.path.join(them.room, "installed"), bytes_of(os.path.join(EXAMPLES, "embedded", "desk.answers"))
     source = os.path.join(EXAMPLES, "embedded", "desk.c")
-    for more in ([], ["-static"]):
+    for more in STATIC:
         run(["gcc", source, "-o", made, *more, *words])
         expect(run([made, RULES], env=places), wanted.decode(), f"the desk by pkg-config, with {more}")
     text = ("import hipac\nwith hipac.Base(rules='version 1 class item {}') as base:\n"
@@ -243,23 +259,27 @@ def installed(them: Libraries) -> None:
 # ---- all
 
 
-def checks(them: Libraries | None, given: argparse.Namespace) -> Iterator[tuple[str, Callable[[], None]]]:
-    """The name and the function of each check. Those that take longest come first."""
+Checks = Iterator[tuple[str, Callable[[], None]]]
+"""The name and the function of each check."""
+
+
+def checks_without_library() -> Checks:
     yield "the header", header
     yield "the client is packed", packed
-    if them is None:
-        return
-    yield "names", lambda: names(them)
-    for way in WAYS:
+
+
+def checks(them: Libraries, given: argparse.Namespace) -> Checks:
+    """Those that take longest come first."""
+    for way in reversed(WAYS):
         part = FEWER.get(way, 1)
-        for words in (["functions"], ["lines", str(given.lines // part)], ["threads", str(100 // min(part, 5)), "4"]):
-            yield f"{way}: {' '.join(words)}", lambda way=way, words=words: calls(them, way, words)
-        yield f"{way}: refuse", lambda way=way: calls(them, way, ["refuse"], refuses=True)
-    yield "the client's tests", lambda: client_tests(them)
-    yield "the desks", lambda: desks(them)
-    yield "installed", lambda: installed(them)
+        for words in (["functions"], ["lines", str(given.lines // part)], ["threads", "100", "4"]):
+            yield f"{way}: {' '.join(words)}", functools.partial(calls, them, way, words)
+        yield f"{way}: refuse", functools.partial(calls, them, way, ["refuse"], refuses=True)
+    for name, check in {"the client's tests": client_tests, "the desks": desks, "installed": installed,
+                        "names": names}.items():
+        yield name, functools.partial(check, them)
     for seed in range(given.sessions):
-        yield f"session {seed}", lambda seed=seed: session(them, seed)
+        yield f"session {seed}", functools.partial(session, them, seed)
 
 
 def shared_library(crate: str, room: str) -> str:
@@ -282,15 +302,15 @@ def main() -> int:
     given = parser.parse_args()
     with tempfile.TemporaryDirectory(prefix="hipac-embedded-") as room:
         shared = shared_library(given.crate, room)
-        them = None
+        every = list(checks_without_library())
         if shared:
             os.environ.update(ENVIRONMENT)
             archive = os.path.join(os.path.dirname(os.path.abspath(shared)), library.ARCHIVE)
             them = Libraries(os.path.abspath(shared), archive, room, command_of("hipac_live"))
+            every += checks(them, given)
         else:
             print("there is no library, which ./build hipac_c makes: only the header and the client's packing")
-        chosen = [(title, check) for title, check in checks(them, given) if given.only in title]
-        return run_checks(chosen, given.jobs)
+        return run_checks([it for it in every if given.only in it[0]], given.jobs)
 
 
 if __name__ == "__main__":
