@@ -14,7 +14,7 @@ from .journals import Journal
 from .library import Library
 from .lines import Line, TransactionText
 from .program import Program
-from .reading import Reader, plain_answer, read_answer
+from .reading import Reader, plain_unit, read_answer
 from .scripts import JsonScript, Lines, Rules, Script, TextScript, lines_of
 from .snapshots import snapshot_lines
 from .texts import BEGINS_TEXT, form_of
@@ -173,11 +173,11 @@ class Base:
         """
         if not self._lines.is_text:
             raise TypeError("this rule base is given JSON: its transactions are lists (tx)")
-        return self._ask(TransactionText(form_of(statements), values), self._journal).units[0]
+        return self._unit(TransactionText(form_of(statements), values))
 
     def tx(self, body: Sequence[Any]) -> Unit:
         """Runs a transaction, a list of statements; of a rule base that was given JSON."""
-        return self.item(["tx", body])[0]
+        return self._unit(self._lines.item(["tx", body]))
 
     def clock(self, t: int) -> List[Unit]:
         """Moves the clock, and gives a unit for each moment that was due."""
@@ -258,6 +258,27 @@ class Base:
     def __exit__(self, *_: object) -> None:
         self.close()
 
+    def _unit(self, line: Line) -> Unit:
+        """Runs a transaction."""
+        with self._way.turn:
+            if self._ended is not None:
+                self._raise_if_ended()
+            if self._timeout is not None or self._journal is not None or self._tree:
+                return self._exchange(line, self._journal, self._timeout).units[0]
+            # What most calls come to, in fewer steps.
+            try:
+                told = line.ask(self._way)
+                unit = None if told is None else plain_unit(told, self.units + 1)
+                if unit is not None:
+                    self.units += 1
+                    return unit
+                answer = self._answer(line, told)
+            except BaseException as fault:
+                self._give_up(fault, False, False)
+        if isinstance(answer, Refused):
+            raise line.explain(answer)
+        return answer.units[0]
+
     def _ask(self, line: Line, journal: Optional[Journal] = None) -> Answer:
         with self._way.turn:
             if self._ended is not None:
@@ -292,11 +313,6 @@ class Base:
 
     def _answer(self, line: Line, told: Optional[bytes]) -> Union[Answer, Refused]:
         """The answer to a line, which is told already or is still to be read."""
-        if told is not None and line.word == "tx" and not self._tree:
-            plain = plain_answer(told, self.units + 1)
-            if plain is not None:
-                self.units += 1
-                return plain
         reader = Reader(self.units, self._tree, line.is_text)
         answer = self._read(reader) if told is None else read_answer(told, reader)
         if isinstance(answer, Answer):

@@ -10,7 +10,8 @@ import subprocess
 import threading
 import warnings
 from pathlib import Path
-from typing import Iterator, List, Optional, Union
+from threading import get_ident
+from typing import Any, Iterator, Optional, Union
 
 from .errors import FAULT_STATUS, HipacError, LibraryMissing, WrongThread
 from .ways import End, Way
@@ -93,15 +94,16 @@ class _OwnThread:
     """Lets one call after the other in, of the thread that made this."""
 
     def __init__(self) -> None:
-        self._thread = threading.current_thread()
+        self._number = get_ident()
+        self._name = threading.current_thread().name
         self._is_taken = False
 
     def is_own(self) -> bool:
-        return threading.current_thread() is self._thread
+        return get_ident() == self._number
 
     def __enter__(self) -> None:
-        if threading.current_thread() is not self._thread:
-            raise WrongThread(f"this rule base belongs to the thread {self._thread.name!r}, which opened it; "
+        if get_ident() != self._number:
+            raise WrongThread(f"this rule base belongs to the thread {self._name!r}, which opened it; "
                               f"by=\"program\" has rule bases that threads share")
         if self._is_taken:
             raise WrongThread("a call with this rule base is still at work, which a signal has interrupted")
@@ -119,7 +121,9 @@ class Library(Way):
 
     def __init__(self, path: Union[str, "os.PathLike[str]", None], is_text: bool, trees: bool):
         self._functions = _loaded(find_library(path))
-        self._handle, self._answer, self._length = _Handle(), ctypes.c_void_p(), ctypes.c_size_t()
+        self._handle, self._length = _Handle(), ctypes.c_size_t()
+        # A slice of it is a copy of the bytes.
+        self._answer: Any = ctypes.POINTER(ctypes.c_char)()
         self._at_handle, self._at_answer = ctypes.byref(self._handle), ctypes.byref(self._answer)
         self._at_length = ctypes.byref(self._length)
         self._line = self._functions.hipac_line
@@ -138,9 +142,10 @@ class Library(Way):
 
     def send(self, line: bytes) -> Optional[bytes]:
         status = self._line(self._at_handle, line, len(line), self._at_answer, self._at_length)
-        if status <= _REFUSED:
-            return ctypes.string_at(self._answer, self._length.value)
-        return self._told(status)
+        if status > _REFUSED:
+            return self._told(status)
+        answer: bytes = self._answer[:self._length.value]
+        return answer
 
     def get(self, class_name: str, key: int) -> Optional[bytes]:
         raw = class_name.encode("utf-8")
@@ -150,7 +155,8 @@ class Library(Way):
     def _told(self, status: int) -> Optional[bytes]:
         """The answer to a call with this status, or None where memory ran out."""
         if status in (_OK, _REFUSED):
-            return ctypes.string_at(self._answer, self._length.value)
+            answer: bytes = self._answer[:self._length.value]
+            return answer
         if status != _MEMORY:
             raise HipacError(f"the library's status is {status}")
         self._end = End(FAULT_STATUS, "fault F1\n", "the library has no memory, and the rule base is lost "
@@ -178,8 +184,3 @@ class Library(Way):
         # From another thread it must not be called: what it has stays where it is.
         if self._own.is_own():
             self._free()
-
-
-def lines_of_answer(told: bytes) -> List[str]:
-    """The lines of a whole answer."""
-    return told.decode("utf-8").split("\n")[:-1]

@@ -7,7 +7,7 @@ import re
 from typing import Callable, Dict, List, Optional, Tuple, Union
 
 from .answers import (
-    Act, Answer, Detached, Emit, Ending, Fire, Node, Object, ObjectOperation, RuleOperation, State, Sub, Unit, Value,
+    Act, Answer, Detached, Emit, Ending, Fire, Node, Object, ObjectOperation, RuleOperation, Sub, Unit, Value,
 )
 from .errors import AnswerFault, Refused
 
@@ -95,11 +95,9 @@ _PLAIN = b"unit %d committed\nok %d\n"
 _COMMITTED = Ending()
 
 
-def plain_answer(told: bytes, number: int) -> Optional[Answer]:
-    """The answer that is told, if it says that the unit of this number committed, and nothing else."""
-    if told != _PLAIN % (number, number):
-        return None
-    return Answer([Unit(number, None, _COMMITTED, [], None, [])], State(), number)
+def plain_unit(told: bytes, number: int) -> Optional[Unit]:
+    """The unit of this number, if what is told is that it committed, and nothing else."""
+    return Unit(number, None, _COMMITTED, [], None, []) if told == _PLAIN % (number, number) else None
 
 
 class Reader:

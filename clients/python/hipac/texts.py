@@ -27,10 +27,12 @@ RESERVED = frozenset("""
 
 def text_value(value: Value) -> str:
     """A value as an operand of the notation."""
+    if type(value) is int:
+        return str(value) if value >= 0 else f"({value})"
     if isinstance(value, bool):
         return "true" if value else "false"
     if isinstance(value, int):
-        return str(value) if value >= 0 else f"({value})"
+        return text_value(int(value))
     if isinstance(value, str):
         return json.dumps(value, ensure_ascii=False)
     raise TypeError(f"a value is an int, a bool or a str, and not {value!r}")
@@ -95,6 +97,7 @@ class Form:
         names = [piece["value"] for piece in PIECE.finditer(source) if piece["value"] is not None]
         self.source, self.names = source, tuple(names)
         self._known = frozenset(names)
+        self._count = len(self._known)
         line = OneLine(source, dict.fromkeys(names, 0), *_AROUND)
         parts, end = [], 0
         for start in line.value_starts():
@@ -104,7 +107,7 @@ class Form:
 
     def with_values(self, values: Mapping[str, Value]) -> str:
         """The line with these values; ValueError if one is missing or isn't used."""
-        if self._known != values.keys():
+        if len(values) != self._count or not self._known.issuperset(values):
             self.one_line(values)
         return self._form % tuple([text_value(values[name]) for name in self.names])
 
