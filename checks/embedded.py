@@ -5,7 +5,8 @@
 
 $HIPAC_LIBRARY names a libhipac.so, beside which libhipac.a lies. With --crate it is made first, by `rt lib` in this
 folder of the crate hipac_c. Otherwise it is the one that ./build hipac_c has made of the files as they stand. Without
-one, only the header and the packing of the client for Python are checked, and a line says so.
+one, only what needs no proof is checked: the header, the packing of the client for Python, and how archives are joined
+and installed. A line says so.
 
 The programs in C (checks/embedded) are linked with libhipac.a, and run plainly, under valgrind and with gcc's
 AddressSanitizer: no access out of bounds, no leak. Random sessions are those of checks/live_sessions.py: the same bytes
@@ -125,17 +126,74 @@ def packed() -> None:
         expect(said, f"{target}/hipac/__init__.py RuleBase\n", "the installed client")
 
 
+# What rt's archive of the crate is like, in C: the exports, a name that isn't to be seen, and what allocates.
+LIKE_RUST = """
+#include "hipac.h"
+struct place { uint64_t is_there; uint8_t *at; };
+extern struct place rattle_alloc(size_t size, size_t alignment);
+extern void rattle_dealloc(uint8_t *at, size_t size, size_t alignment);
+uint32_t hidden(void) { struct place new = rattle_alloc(7, 1); rattle_dealloc(new.at, 7, 1); return new.is_there; }
+uint32_t hipac_version(void) { return hidden() + 6; }
+"""
+
+# A program on what is installed.
+SAYS_VERSION = """
+#include <hipac.h>
+#include <stdio.h>
+int main(void) { printf("%u\\n", hipac_version()); return 0; }
+"""
+
+
+def written(folder: str, name: str, text: str) -> str:
+    path = os.path.join(folder, name)
+    with open(path, "w", encoding="utf-8") as file:
+        file.write(text)
+    return path
+
+
+def by_pkg_config(prefix: str, source: str, made: str, *more: str) -> dict[str, str]:
+    """Compiles a program against what is installed below a folder, and gives the environment that it runs in."""
+    places = {**os.environ, "PKG_CONFIG_PATH": os.path.join(prefix, "lib", "pkgconfig"),
+              "LD_LIBRARY_PATH": os.path.join(prefix, "lib")}
+    words = run(["pkg-config", "--cflags", "--libs", "hipac"], env=places).split()
+    run(["gcc", source, "-o", made, *more, *words])
+    return places
+
+
+def joined() -> None:
+    """What rt makes and what allocates become two libraries, which are installed and found by pkg-config. (Here what rt
+    makes is made by gcc.)"""
+    with tempfile.TemporaryDirectory(prefix="hipac-joined-") as room:
+        made, archive = os.path.join(room, "like_rust.o"), os.path.join(room, "liblike_rust.a")
+        run(["gcc", "-c", "-fPIC", f"-I{INCLUDE}", written(room, "like_rust.c", LIKE_RUST), "-o", made])
+        run(["ar", "rcs", archive, made])
+        library.make(archive, room)
+        for name, words in ((library.SHARED, ["-D"]), (library.ARCHIVE, ["-g"])):
+            expect(shown([*words, os.path.join(room, name)]), ["hipac_version"], f"what {name} shows")
+        prefix, program = os.path.join(room, "prefix"), os.path.join(room, "program")
+        for _ in range(2):
+            installing.install(prefix, {"hipac": program} if os.path.exists(program) else {}, room)
+            for more in STATIC:
+                places = by_pkg_config(prefix, written(room, "program.c", SAYS_VERSION), program, *more)
+                expect(run([program], env=places), "7\n", "a program by pkg-config")
+        expect(run([os.path.join(prefix, "bin", "hipac")]), "7\n", "an installed program")
+        tools = subprocess.run([os.path.join(prefix, "bin", "hipac-tools"), "--help"], capture_output=True, check=False)
+        expect((tools.returncode, b"check" in tools.stdout), (0, True), tools.stderr)
+
+
 # ---- from C
 
 
 def shown(words: list[str]) -> list[str]:
-    return sorted(line.split()[-1] for line in run(words).splitlines() if len(line.split()) == 3)
+    """The names that nm shows with these words."""
+    lines = run(["nm", "--defined-only", *words]).splitlines()
+    return sorted(line.split()[-1] for line in lines if len(line.split()) == 3)
 
 
 def names(them: Libraries) -> None:
     """Both libraries show the header's functions and nothing else, and a program remembers the soname."""
-    expect(shown(["nm", "-D", "--defined-only", them.shared]), sorted(library.exports()), "what the .so shows")
-    expect(shown(["nm", "-g", "--defined-only", them.archive]), sorted(library.exports()), "what the .a shows")
+    expect(shown(["-D", them.shared]), sorted(library.exports()), "what the .so shows")
+    expect(shown(["-g", them.archive]), sorted(library.exports()), "what the .a shows")
     expect(library.SONAME in run(["objdump", "-p", them.shared]), True, "the soname")
 
 
@@ -235,13 +293,9 @@ def installed(them: Libraries) -> None:
         if name.upper() in os.environ:
             programs[name.replace("_", "-")] = os.environ[name.upper()]
     installing.install(prefix, programs, os.path.dirname(them.shared))
-    places = {**os.environ, "PKG_CONFIG_PATH": os.path.join(prefix, "lib", "pkgconfig"),
-              "LD_LIBRARY_PATH": os.path.join(prefix, "lib")}
-    words = run(["pkg-config", "--cflags", "--libs", "hipac"], env=places).split()
     made, wanted = os.path.join(them.room, "installed"), bytes_of(os.path.join(EXAMPLES, "embedded", "desk.answers"))
-    source = os.path.join(EXAMPLES, "embedded", "desk.c")
     for more in STATIC:
-        run(["gcc", source, "-o", made, *more, *words])
+        places = by_pkg_config(prefix, os.path.join(EXAMPLES, "embedded", "desk.c"), made, *more)
         expect(run([made, RULES], env=places), wanted.decode(), f"the desk by pkg-config, with {more}")
     text = ("import hipac\nwith hipac.Base(rules='version 1 class item {}') as base:\n"
             "    print(hipac.find_library(), base.transaction('create item(7) emit 5').emits)")
@@ -266,6 +320,7 @@ Checks = Iterator[tuple[str, Callable[[], None]]]
 def checks_without_library() -> Checks:
     yield "the header", header
     yield "the client is packed", packed
+    yield "libraries are joined", joined
 
 
 def checks(them: Libraries, given: argparse.Namespace) -> Checks:
@@ -309,7 +364,7 @@ def main() -> int:
             them = Libraries(os.path.abspath(shared), archive, room, command_of("hipac_live"))
             every += checks(them, given)
         else:
-            print("there is no library, which ./build hipac_c makes: only the header and the client's packing")
+            print("there is no library, which ./build hipac_c makes: only what needs none is checked")
         return run_checks([it for it in every if given.only in it[0]], given.jobs)
 
 
