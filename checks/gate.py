@@ -30,6 +30,7 @@ SCRIPTS = (
     "checks/checking.py",
     "checks/notation.py",
     "checks/accounts.py",
+    "checks/embedded.py",
     "examples/orders/page_test.py",
     "editors/tests/run.py",
     "tools/unproved.py",
@@ -85,7 +86,7 @@ FOLDERS = sorted({name.split("/")[0] for name in UNIT_TESTS})
 # How many pass in the tree: two in each script and one for each program that is made; the unit tests, one of app_tests,
 # and their layout.
 QUICK = 2 * (len(SCRIPTS) - 1) + 5 + len(UNIT_TESTS) + 2
-PROVED = QUICK + 7 + 2 * 6
+PROVED = QUICK + 7 + 2 * 7
 
 # The folders of tests in Python: the part of ./test that runs them, its script, and how many programs it needs.
 PYTHON_TESTS = {
@@ -114,7 +115,7 @@ USED = {
 def run(script, words):
     return SimpleNamespace(status=0, output="final\\nend\\n", errors="")
 """,
-    "clients/python/hipac_live.py": 'PROGRAM = ("true",)\n',
+    "clients/python/hipac/__init__.py": 'PROGRAM = ("true",)\nHipacError, find_library = Exception, str\n',
     "clients/python/tests/__init__.py": "",
     "editors/tests/__init__.py": "",
 }
@@ -143,7 +144,8 @@ class Tree:
         self.write("tests/app_tests/first.rs", "//! Tests.\n")
         rt = os.path.join(room, "bin", "rt")
         write(rt, FAKE_RT.replace("@NOTES@", self.notes), 0o755)
-        for name in ("apt-get", "chromedriver", "dot", "mypy", "pgrep", "pyflakes3", "pycodestyle", "vim"):
+        for name in ("apt-get", "chromedriver", "dot", "gcc", "luajit", "mypy", "pgrep", "pkg-config", "pyflakes3",
+                     "pycodestyle", "valgrind", "vim"):
             write(os.path.join(room, "bin", name), "#!/bin/sh\n", 0o755)
         for name in ("jsonschema", "selenium"):
             write(os.path.join(room, "modules", f"{name}.py"), "")
@@ -201,7 +203,7 @@ def proves_all(tree):
     calls = tree.calls()
     proving = calls.index("rt ci")
     after = [it for it in calls[proving + 1 :]]
-    scripts = ("checking", "conditions", "live_sessions", "notation", "programs", "version4")
+    scripts = ("checking", "conditions", "embedded", "live_sessions", "notation", "programs", "version4")
     expect(sorted(it.split()[0] for it in after), [f"checks/{name}.py" for name in scripts], after)
     expect([it for it in after if "--proved" in it],
            [f"checks/programs.py --proved {tree.top}/crates/hipac/out/hipac"], "the check of the proved program")

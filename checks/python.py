@@ -29,7 +29,7 @@ GROUPS = {
     "scripts": (["build", "test", "tools/*.py", "checks/*.py", "bench/*.py"], ["tools", "checks", "bench"]),
     "tools": (["tools/hipac_tools/*.py", "tools/hipac_tools/*/*.py"], ["tools"]),
     "tests of the tools": (["tools/tests/*.py"], ["tools"]),
-    "client": (["clients/python/*.py"], ["clients/python"]),
+    "client": (["clients/python/*.py", "clients/python/hipac/*.py"], ["clients/python"]),
     "order desk": (
         ["examples/orders/desk.py", "examples/orders/page.py"], ["clients/python", "examples/orders", "tools"]),
 }

@@ -57,6 +57,7 @@ COSTS = {
     "hp_live": 310,
     "hipac": 320,
     "hipac_live": 230,
+    "hipac_c": 250,
     "hipac_check": 150,
     "hipac_text": 100,
     "bank": 360,
@@ -112,6 +113,11 @@ def programs(known: dict[str, Crate], top: str = TOP) -> list[str]:
     return [name for name in known if is_program(name, top)]
 
 
+def libraries(known: dict[str, Crate]) -> list[str]:
+    """The crates that are static libraries, for C."""
+    return [name for name, crate in known.items() if "staticlib" in crate.line.partition(":")[0].split()]
+
+
 def cost_of(name: str) -> int:
     """What a first proof of a crate costs, in seconds of one processor."""
     return COSTS.get(name, USUAL_COST)
@@ -129,7 +135,8 @@ def key_of(name: str, *folders: str, top: str = TOP) -> str:
 
 
 def proved_place(name: str, top: str = TOP) -> str:
-    """The path of the proved program that is made from the files below this folder; tools/start looks there."""
+    """The path of the proved program, or of the folder with the proved library, that is made from the files below this
+    folder. tools/start and the client for Python look there."""
     return os.path.join(BUILT, f"{name}-proved-{key_of(name, *PARTS, top=top)}")
 
 

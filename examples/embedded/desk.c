@@ -1,5 +1,6 @@
 /* The order desk in the program's own process: reads the rules of examples/orders, and answers a few orders.
-   Usage: desk RULES */
+   Usage: desk RULES
+   gcc desk.c $(pkg-config --cflags --libs hipac) makes it; docs/EMBEDDING.md has more. */
 #include "hipac.h"
 #include <stdio.h>
 #include <stdlib.h>
@@ -32,14 +33,17 @@ int main(int argc, char **argv) {
     if (!rules) return fputs("usage: desk RULES\n", stderr), 2;
     size_t read = fread(script, 1, sizeof script, rules);
     fclose(rules);
-    put(hipac_open(script, read, HIPAC_TEXT, &base, &answer, &length), answer, length);
-    ask("transaction { create product(7) { name = \"desk lamp\", stock = 5, low = 2, awaited = false } }");
-    ask("transaction { create order(1) { product = 7, count = 2, state = \"open\", reminded = false } }");
-    ask("transaction { create order(2) { product = 7, count = 2, state = \"open\", reminded = false } }");
-    ask("transaction { create order(3) { product = 7, count = 2, state = \"open\", reminded = false } }");
+    int32_t status = hipac_open(script, read, HIPAC_TEXT, &base, &answer, &length);
+    put(status, answer, length);
+    ask("transaction { create product(7) set name = \"desk lamp\", stock = 5, low = 2, awaited = false }");
+    ask("transaction { create order(1) set product = 7, count = 2, state = \"open\", reminded = false }");
+    ask("transaction { create order(2) set product = 7, count = 2, state = \"open\", reminded = false }");
+    ask("transaction { create order(3) set product = 7, count = 2, state = \"open\", reminded = false }");
     ask("transaction { update order(1) set state = \"shipped\" }");
     ask("transaction { update order(1) set state = \"paid\" }");
-    ask("show");
+    printf("> show\n");
+    status = hipac_show(&base, &answer, &length);
+    put(status, answer, length);
     hipac_close(&base);
     return 0;
 }

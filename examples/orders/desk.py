@@ -38,8 +38,8 @@ from typing import Dict, Iterable, Iterator, List, Optional
 sys.path.insert(0, str(Path(__file__).resolve().parents[2] / "clients" / "python"))
 
 import page  # noqa: E402 - it stands beside this file
-from hipac_live import (  # noqa: E402 - found by the path above
-    HipacError, Journal, JournalFault, ProgramEnded, Refused, RuleBase, Unit, Value)
+from hipac import (  # noqa: E402 - found by the path above
+    Base, HipacError, Journal, JournalFault, ProgramEnded, Refused, Unit, Value)
 
 RULES = Path(__file__).with_name("rules.rules")
 ADDRESS = ("127.0.0.1", int(os.environ.get("DESK_PORT", "7070")))
@@ -132,14 +132,14 @@ def end_of(units: List[Unit]) -> str:
     return f"no: {ending.message or REASONS.get(ending.cause or '', str(ending))}"
 
 
-def reason_of(refused: Refused, word: str, base: RuleBase) -> str:
+def reason_of(refused: Refused, word: str, base: Base) -> str:
     """Why a request was refused, in the words of a client, who has seen no rules and no paths."""
     if word == "clock" and refused.limit is None:
         return f"the clock doesn't go back: it is minute {base.time}"
     return "that is too long" if refused.limit else "that can't be asked"
 
 
-def run(base: RuleBase, word: str, words: List[str]) -> List[Unit]:
+def run(base: Base, word: str, words: List[str]) -> List[Unit]:
     """The units of a request."""
     values = values_of(word, words)
     if word in TRANSACTIONS:
@@ -150,7 +150,7 @@ def run(base: RuleBase, word: str, words: List[str]) -> List[Unit]:
     return base.clock(minute)
 
 
-def answer(base: RuleBase, request: str) -> List[str]:
+def answer(base: Base, request: str) -> List[str]:
     """The lines of the answer to a request. The rule base takes one request after the other."""
     word, *rest = request.split() or [""]
     if word == "show" and not rest:
@@ -190,7 +190,7 @@ class Desk(socketserver.ThreadingTCPServer):
     def __init__(self, journal: CountedJournal):
         super().__init__(ADDRESS, Client)
         self.journal = journal
-        self.base: Optional[RuleBase] = None
+        self.base: Optional[Base] = None
         """The rule base, once the whole journal has been read."""
         self.fault: Optional[HipacError] = None
         """Why the desk goes down."""
@@ -259,7 +259,7 @@ def listening(*servers: socketserver.BaseServer) -> Iterator[List[threading.Thre
 def serve(path: str) -> int:
     """Takes requests while the journal is read, and answers them from then on."""
     with CountedJournal(path) as journal, Desk(journal) as desk, page.PageServer(desk) as pages:
-        with listening(desk, pages) as threads, RuleBase.recover(journal, rules=RULES) as base:
+        with listening(desk, pages) as threads, Base.recover(journal, rules=RULES, by="program") as base:
             desk.base = base
             print(f"desk: open on port {ADDRESS[1]}, with a page at {pages.url}; lines replayed: {base.replayed}; "
                   f"units so far: {base.units}", file=sys.stderr)

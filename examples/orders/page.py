@@ -16,7 +16,7 @@ from typing import TYPE_CHECKING, Any, Deque, Dict, List, Sequence, Tuple
 if TYPE_CHECKING:
     from desk import Desk
 
-    from hipac_live import Object, State
+    from hipac import Object, State
 
 STATES = {"open": ("pay", "cancel"), "paid": ("ship",), "shipped": (), "cancelled": ()}
 """The states of an order, each with the requests that may follow."""

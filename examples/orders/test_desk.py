@@ -19,7 +19,7 @@ HERE = Path(__file__).resolve().parent
 REPOSITORY = HERE.parents[1]
 
 sys.path.insert(0, str(REPOSITORY / "clients" / "python"))
-from hipac_live import PROGRAM  # noqa: E402 - found by the path above
+from hipac import PROGRAM  # noqa: E402 - found by the path above
 
 STEP = re.compile(r"```sh\n(.*?)```(?:\n\n```text\n(.*?)```)?", re.DOTALL)
 

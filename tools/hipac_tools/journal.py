@@ -250,7 +250,7 @@ def _write_snapshot(words: Words, ran: Ran) -> None:
     client, opening = _client(), ran.opening
     given = {"rules" if opening.is_text else "script": opening.content if opening.file is None else Path(opening.file)}
     try:
-        with client.RuleBase(**given, program=[program_path()]) as base:
+        with client.Base(**given, by="program", program=[program_path()]) as base:
             base.replay(ran.items)
             lines = base.snapshot(lose_pasts=words.lose_pasts)
     except client.SnapshotFault as fault:
@@ -261,9 +261,9 @@ def _write_snapshot(words: Words, ran: Ran) -> None:
 def _client() -> Any:
     """The client for Python, which stands beside the tools in the repository."""
     sys.path.insert(0, str(Path(REPOSITORY, "clients", "python")))
-    import hipac_live  # pylint: disable=import-outside-toplevel
+    import hipac  # pylint: disable=import-outside-toplevel
 
-    return hipac_live
+    return hipac
 
 
 def _main(word: str, usage: str, arguments: List[str], write: Any) -> int:

@@ -3,18 +3,26 @@
 from __future__ import annotations
 
 import logging
+import os
 import sys
 import tempfile
 import unittest
 from pathlib import Path
 from typing import Any, Sequence
 
-from hipac_live import RuleBase, Script
+from hipac import Base, Script
+
+BY = os.environ.get("HIPAC_BY", "program")
+"""What the rule bases of the tests are asked by."""
+
+# What is asked by nothing in particular is, too: the pages and the doctests show it so.
+ASKED_BY = "Base.__init__.__kwdefaults__['by'] = {!r}"
+exec(ASKED_BY.format(BY))
 
 REPOSITORY = Path(__file__).resolve().parents[3]
 
 # The launcher's notice is for people.
-logging.getLogger("hipac_live").setLevel(logging.CRITICAL)
+logging.getLogger("hipac").setLevel(logging.CRITICAL)
 
 Parts = Sequence[Any]
 
@@ -52,13 +60,17 @@ def python(text: str) -> list:
 class RuleBaseTest(unittest.TestCase):
     """A test with rule bases that are closed at its end, and a folder of its own."""
 
-    def base(self, given: Script, **options: Any) -> RuleBase:
-        base = RuleBase(given, **options)
+    def base(self, given: Script, **options: Any) -> Base:
+        if BY != "program" and {"program", "timeout"} & options.keys():
+            self.skipTest("it is of the program alone")
+        base = Base(given, **options)
         self.addCleanup(base.close)
         return base
 
-    def recovered(self, journal: Any, given: Any = None, **options: Any) -> RuleBase:
-        base = RuleBase.recover(journal, given, **options)
+    def recovered(self, journal: Any, given: Any = None, **options: Any) -> Base:
+        if BY != "program" and "program" in options:
+            self.skipTest("it is of the program alone")
+        base = Base.recover(journal, given, **options)
         self.addCleanup(base.close)
         return base
 

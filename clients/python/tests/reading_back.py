@@ -5,7 +5,7 @@ from __future__ import annotations
 import json
 from typing import Iterator, List
 
-from hipac_live import Act, Answer, Emit, Fire, Node, ObjectOperation, RuleOperation, Sub, Value
+from hipac import Act, Answer, Emit, Fire, Node, ObjectOperation, RuleOperation, Sub, Value
 
 
 def lines_of(answer: Answer) -> Iterator[str]:

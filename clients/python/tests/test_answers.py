@@ -4,7 +4,7 @@ from __future__ import annotations
 
 import unittest
 
-from hipac_live import Act, Emit, Ending, Fire, ObjectOperation, Refused, RuleOperation, Sub
+from hipac import Act, Emit, Ending, Fire, ObjectOperation, Refused, RuleOperation, Sub
 
 from .making import ITEM, NOTE, STOCK, RuleBaseTest, installed, rule, script
 

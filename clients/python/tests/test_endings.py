@@ -9,7 +9,7 @@ import time
 import unittest
 from unittest import mock
 
-from hipac_live import AnswerFault, PROGRAM, ProgramEnded, Refused, RuleBase, TimedOut
+from hipac import AnswerFault, PROGRAM, ProgramEnded, Refused, Base, TimedOut
 
 from .making import STOCK, RuleBaseTest, python, script
 
@@ -25,7 +25,7 @@ class EndingTest(RuleBaseTest):
         self.assertEqual({name: getattr(error, name) for name in wanted}, wanted)
         return error
 
-    def expect_same_again(self, base: RuleBase, error: ProgramEnded) -> None:
+    def expect_same_again(self, base: Base, error: ProgramEnded) -> None:
         for call in (lambda: base.tx([]), lambda: base.clock(1), base.show, lambda: base.replay(["[]"])):
             with self.assertRaises(type(error)) as caught:
                 call()
@@ -55,7 +55,7 @@ class EndingTest(RuleBaseTest):
         self.assertIn("command line refused", str(error))
 
     def test_a_refused_script(self):
-        with mock.patch.object(RuleBase, "close", autospec=True, side_effect=RuleBase.close) as closed:
+        with mock.patch.object(Base, "close", autospec=True, side_effect=Base.close) as closed:
             with self.assertRaises(Refused):
                 self.base({"version": 9})
         base = closed.call_args[0][0]
@@ -96,13 +96,13 @@ class EndingTest(RuleBaseTest):
         error = self.expect_ended(base.show, status=0)
         self.assertEqual(str(error), "the rule base is closed")
         self.expect_same_again(base, error)
-        with RuleBase(STOCK, program=PROGRAM) as other:
+        with Base(STOCK, program=PROGRAM) as other:
             other.tx([])
         self.expect_ended(other.show, status=0)
 
     def test_closing_ends_the_program(self):
         with self.assertRaises(ZeroDivisionError):
-            with RuleBase(STOCK, program=PROGRAM) as base:
+            with Base(STOCK, program=PROGRAM) as base:
                 _ = 1 // 0
         with self.assertRaises(ProcessLookupError):
             os.kill(base.pid, 0)
@@ -121,7 +121,7 @@ class EndingTest(RuleBaseTest):
     def test_an_interrupt(self):
         """Whatever breaks off an answer, the next call doesn't take the rest of it for its own."""
         base = self.base(STOCK)
-        with mock.patch("hipac_live._Reader.take", side_effect=KeyboardInterrupt):
+        with mock.patch("hipac.reading.Reader.take", side_effect=KeyboardInterrupt):
             with self.assertRaises(KeyboardInterrupt):
                 base.tx([])
         self.expect_same_again(base, self.expect_ended(base.show, status=-9))

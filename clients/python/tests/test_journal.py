@@ -12,9 +12,9 @@ import unittest
 from pathlib import Path
 from unittest import mock
 
-from hipac_live import Journal, JournalFault, PROGRAM, ProgramEnded, Refused
+from hipac import Journal, JournalFault, PROGRAM, ProgramEnded, Refused
 
-from .making import NO_OVERSELL, STOCK, RuleBaseTest, python, rule, script
+from .making import BY, NO_OVERSELL, STOCK, RuleBaseTest, python, rule, script
 from .test_endings import OPENS
 
 TICK = rule("tick", ["every", 10, 10], [["emit", ["time", 0]]])
@@ -25,8 +25,8 @@ GIVEN = script([NO_OVERSELL, TICK, DAY], [["tx", [["install", it] for it in ("no
 CLIENT = """
 import sys
 sys.path.insert(0, sys.argv[1])
-from hipac_live import RuleBase
-base = RuleBase.recover(sys.argv[2], sys.argv[3])
+from hipac import Base
+base = Base.recover(sys.argv[2], sys.argv[3], by=sys.argv[4])
 print(base.pid, flush=True)
 for number in range(10**9):
     base.tx([["update", "item", 7, [["stock", number]]]])
@@ -59,12 +59,15 @@ class RecoveryTest(RuleBaseTest):
         return base, base.show()
 
     def killed(self, base) -> None:
-        """A rule base whose process was killed: it lets go of the journal."""
+        """A rule base whose process was killed: it lets go of the journal. The library's process is our own: such a
+        rule base is closed."""
+        if BY == "library":
+            return base.close()
         os.kill(base.pid, signal.SIGKILL)
         with self.assertRaises(ProgramEnded) as caught:
             base.show()
         self.assertFalse(caught.exception.is_kept)
-        base.close()
+        return base.close()
 
     def test_a_journal_brings_all_back(self):
         base, state = self.after_a_day()
@@ -133,7 +136,7 @@ class RecoveryTest(RuleBaseTest):
     def test_an_interrupt_after_the_line_was_written(self):
         """The line is in the journal, and so the rule base that goes on must be one that has run it."""
         base = self.recovered(self.path, STOCK)
-        with mock.patch("hipac_live._Program.send", side_effect=KeyboardInterrupt):
+        with mock.patch(f"hipac.{BY}.{BY.title()}.send", side_effect=KeyboardInterrupt):
             with self.assertRaises(KeyboardInterrupt):
                 base.tx([["delete", "item", 7]])
         with self.assertRaises(ProgramEnded):
@@ -206,7 +209,7 @@ class JournalTest(RuleBaseTest):
 
     def test_one_process_has_it(self):
         journal = Journal(self.path)
-        with mock.patch("hipac_live._LOCK_LIMIT", 0.1), self.assertRaisesRegex(JournalFault, "another process"):
+        with mock.patch("hipac.journals.LOCK_LIMIT", 0.1), self.assertRaisesRegex(JournalFault, "another process"):
             Journal(self.path)
         journal.close()
         Journal(self.path).close()
@@ -246,7 +249,7 @@ class JournalTest(RuleBaseTest):
 
     def test_a_killed_client_leaves_a_journal(self):
         """A client that is killed in the middle of its work lets go of the journal, and its program ends by itself."""
-        words = python(CLIENT) + [str(Path(__file__).resolve().parents[1]), str(self.path), json.dumps(STOCK)]
+        words = python(CLIENT) + [str(Path(__file__).resolve().parents[1]), str(self.path), json.dumps(STOCK), BY]
         running = subprocess.Popen(words, stdout=subprocess.PIPE, stderr=subprocess.DEVNULL)
         self.addCleanup(running.stdout.close)
         program = int(running.stdout.readline())

@@ -10,9 +10,9 @@ import subprocess
 import sys
 import unittest
 
-from hipac_live import PROGRAM
+from hipac import PROGRAM
 
-from .making import REPOSITORY, RuleBaseTest
+from .making import ASKED_BY, BY, REPOSITORY, RuleBaseTest
 
 PAGES = ("clients/python/README.md", "docs/LIVE.md")
 BLOCK = re.compile(r"```python\n(.*?)```", re.DOTALL)
@@ -41,7 +41,7 @@ class PagesTest(RuleBaseTest):
                     room = self.folder()
                     (room / "examples").symlink_to(REPOSITORY / "examples")
                     how = {"cwd": room, "env": {**os.environ, "PYTHONPATH": str(REPOSITORY / "clients" / "python")}}
-                    words = [sys.executable, "-c", text]
+                    words = [sys.executable, "-c", "from hipac import Base\n" + ASKED_BY.format(BY) + "\n" + text]
                     ended = subprocess.run(words, capture_output=True, text=True, check=False, **how)
                     self.assertEqual(ended.returncode, 0, ended.stderr)
                     self.assertEqual(ended.stdout.splitlines(), PRINTED.findall(text))

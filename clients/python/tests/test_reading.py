@@ -7,7 +7,8 @@ import subprocess
 import sys
 import unittest
 
-from hipac_live import AnswerFault, Ending, PROGRAM, Refused, _Reader
+from hipac import AnswerFault, Ending, PROGRAM, Refused
+from hipac.reading import Reader
 
 from .making import REPOSITORY
 from .reading_back import lines_of
@@ -30,7 +31,7 @@ class ReadingBackTest(unittest.TestCase):
     def read_back(self, script: dict, trees: bool) -> None:
         count, reader, again, told = 0, None, [], answers_to(script, trees)
         for line in told:
-            reader = reader or _Reader(count, trees)
+            reader = reader or Reader(count, trees)
             answer = reader.take(line)
             if answer is not None:
                 again.extend(lines_of(answer))
@@ -53,7 +54,7 @@ class ReadingBackTest(unittest.TestCase):
 
 class RefusingTest(unittest.TestCase):
     def take(self, *lines: str, trees: bool = True, count: int = 0):
-        reader = _Reader(count, trees)
+        reader = Reader(count, trees)
         for line in lines[:-1]:
             self.assertIsNone(reader.take(line))
         return reader.take(lines[-1])

@@ -4,7 +4,7 @@ from __future__ import annotations
 
 import unittest
 
-from hipac_live import Refused
+from hipac import Refused
 
 from .making import ITEM, STOCK, RuleBaseTest, rule, script
 

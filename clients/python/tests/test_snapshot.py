@@ -5,7 +5,7 @@ from __future__ import annotations
 import json
 import unittest
 
-from hipac_live import SnapshotFault
+from hipac import SnapshotFault
 
 from .making import ITEM, NO_OVERSELL, NOTE, RuleBaseTest, installed, rule, script
 

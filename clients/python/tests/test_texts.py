@@ -6,8 +6,9 @@ import subprocess
 import unittest
 from pathlib import Path
 
-from hipac_live import (
-    AnswerFault, HipacError, JournalFault, PROGRAM, Refused, RuleBase, SnapshotFault, _OneLine, _Reader)
+from hipac import AnswerFault, Base, HipacError, JournalFault, PROGRAM, Refused, SnapshotFault
+from hipac.reading import Reader
+from hipac.texts import OneLine
 
 from .making import REPOSITORY, STOCK, RuleBaseTest, python
 from .test_answers import TEXTS
@@ -40,7 +41,7 @@ def refusal(told: RuleBaseTest, call) -> Refused:
 
 
 class TextTest(RuleBaseTest):
-    def texts(self, rules=STOCK_TEXT, **options) -> RuleBase:
+    def texts(self, rules=STOCK_TEXT, **options) -> Base:
         return self.base(None, rules=rules, **options)
 
     def file(self, text=STOCK_TEXT, name="stock.rules") -> Path:
@@ -103,9 +104,9 @@ class TransactionTest(TextTest):
         with self.assertRaisesRegex(TypeError, "is given JSON"):
             self.base(STOCK).transaction("emit 1")
         with self.assertRaisesRegex(TypeError, "is given a script, or rules"):
-            RuleBase()
+            Base()
         with self.assertRaisesRegex(TypeError, "not twice"):
-            RuleBase(STOCK, rules=STOCK_TEXT)
+            Base(STOCK, rules=STOCK_TEXT)
         with self.assertRaisesRegex(ValueError, "is given as rules="):
             self.base(STOCK_TEXT)
         with self.assertRaisesRegex(ValueError, "the path of a file is given as a Path"):
@@ -177,13 +178,13 @@ class PlaceTest(TextTest):
 
     def test_what_the_reader_takes(self):
         for line in ("S1 1:1", "S2 3:4", "S4 12:34", "S5 size", "S6"):
-            found = _Reader(0, False, is_text=True).take("refused " + line)
+            found = Reader(0, False, is_text=True).take("refused " + line)
             self.assertIsInstance(found, Refused)
         for line in ("S1", "S2 /", "S4 /1/2", "S4 1", "S4 1:01", "S4 1:2:3", "S6 1:1", "S5 1:1", "S4 -1:1"):
             with self.subTest(line), self.assertRaises(AnswerFault):
-                _Reader(0, False, is_text=True).take("refused " + line)
+                Reader(0, False, is_text=True).take("refused " + line)
         with self.assertRaises(AnswerFault):
-            _Reader(0, False).take("refused S4 1:2")
+            Reader(0, False).take("refused S4 1:2")
 
 
 class OneLineTest(TextTest):
@@ -193,7 +194,7 @@ class OneLineTest(TextTest):
                 ('"a # b" c', '"a # b" c'), ('"a\\"#" #\n', '"a\\"#"'), ('"a\\\\"# "\nb', '"a\\\\" b'), ("#", ""),
                 ("a\x0b\xa0b", "a\x0b\xa0b"), ("`on`:a", "`on`:a"), ("a!=b", "a!=b"), ('"a\nb"', '"a\x1fb"')):
             with self.subTest(text):
-                self.assertEqual(_OneLine(text).text, line)
+                self.assertEqual(OneLine(text).text, line)
 
     def test_examples(self):
         """A script on one line has the answers of the file."""
@@ -202,7 +203,7 @@ class OneLineTest(TextTest):
         for path in sorted(paths):
             with self.subTest(path.name):
                 text = path.read_text(encoding="utf-8")
-                bases = [self.texts(rules, tree=True) for rules in (path, text, _OneLine(text).text)]
+                bases = [self.texts(rules, tree=True) for rules in (path, text, OneLine(text).text)]
                 self.assertEqual([it.opening for it in bases], [bases[0].opening] * 3)
                 self.assertEqual([it.show() for it in bases], [bases[0].show()] * 3)
                 self.assertEqual([it.time for it in bases], [bases[0].time] * 3)
@@ -335,12 +336,12 @@ transaction { install a install b install c install d }
 
 
 class TextSnapshotTest(TextTest):
-    def copy_of(self, base, **options) -> RuleBase:
+    def copy_of(self, base, **options) -> Base:
         path = self.folder() / "journal"
         path.write_bytes(b"".join(line + b"\n" for line in base.snapshot(**options)))
         return super().recovered(path)
 
-    def grown(self) -> RuleBase:
+    def grown(self) -> Base:
         base = self.texts(RULES)
         base.transaction("install reports install alarm install late install closure install `rule`")
         base.transaction("create item(-7) set stock = -3 create `on`(1) set `if` = $it, `then` = true", it='a "b" # \n')

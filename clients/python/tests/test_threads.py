@@ -7,7 +7,7 @@ import signal
 import unittest
 from concurrent.futures import ThreadPoolExecutor
 
-from hipac_live import ProgramEnded, Refused
+from hipac import ProgramEnded, Refused
 
 from .making import STOCK, RuleBaseTest, installed, rule
 
@@ -63,7 +63,7 @@ class ThreadsTest(RuleBaseTest):
         base = self.base(STOCK)
         with ThreadPoolExecutor(2) as pool:
             answer = pool.submit(base.tx, [["emit", "x" * 1000]] * 300)
-            while not answer.done() and not base._lock.locked():
+            while not answer.done() and not base._way.turn.locked():
                 pass
             base.close()
             self.assertEqual(len(answer.result().emits), 300)
