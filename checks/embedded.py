@@ -4,9 +4,9 @@
     checks/embedded.py [--crate FOLDER] [--sessions N] [--lines N] [--jobs N] [--only WORD]
 
 $HIPAC_LIBRARY names a libhipac.so, beside which libhipac.a lies. With --crate it is made first, by `rt lib` in this
-folder of the crate hipac_c. Otherwise it is the one that ./build hipac_c has made of the files as they stand. Without
-one, only what needs no proof is checked: the header, the packing of the client for Python, and how archives are joined
-and installed. A line says so.
+folder of the crate hipac_c. Otherwise it is the one that ./build hipac_c or tools/unproved_library.py has made of the
+files as they stand. Without one, only what needs none is checked: the header, the packing of the client for Python, and
+how archives are joined and installed. A line says so.
 
 The programs in C (checks/embedded) are linked with libhipac.a, and run plainly, under valgrind and with gcc's
 AddressSanitizer: no access out of bounds, no leak. Random sessions are those of checks/live_sessions.py: the same bytes
@@ -351,8 +351,9 @@ def shared_library(crate: str, room: str) -> str:
         subprocess.run(["rt", "lib"], cwd=crate, stdin=subprocess.DEVNULL, check=True)
         library.make(os.path.join(crate, "out", f"lib{library.CRATE}.a"), os.path.join(room, "library"))
         return os.path.join(room, "library", library.SHARED)
-    built = os.path.join(repo.proved_place(library.CRATE), library.SHARED)
-    return os.environ.get("HIPAC_LIBRARY") or (built if os.path.isfile(built) else "")
+    places = [repo.proved_place(library.CRATE), repo.unproved_place(library.CRATE)]
+    found = [os.path.join(place, library.SHARED) for place in places if library.are_there(place)]
+    return os.environ.get("HIPAC_LIBRARY") or (found or [""])[0]
 
 
 def main() -> int:
@@ -372,7 +373,7 @@ def main() -> int:
             them = Libraries(os.path.abspath(shared), archive, room, command_of("hipac_live"))
             every += checks(them, given)
         else:
-            print("there is no library, which ./build hipac_c makes: only what needs none is checked")
+            print("there is no library, which tools/unproved_library.py makes: only what needs none is checked")
         return run_checks([it for it in every if given.only in it[0]], given.jobs)
 
 
