@@ -16,6 +16,7 @@ import glob
 import os
 import re
 import shutil
+import signal
 import subprocess
 import sys
 import tempfile
@@ -157,6 +158,7 @@ def make(room, to):
 
 
 def main():
+    signal.signal(signal.SIGTERM, lambda number, _: sys.exit(128 + number))
     to = repo.unproved_place(library.CRATE)
     os.makedirs(repo.BUILT, exist_ok=True)
     with open(os.path.join(repo.BUILT, f"{library.CRATE}-unproved.lock"), "w", encoding="utf-8") as lock:
