@@ -4,9 +4,9 @@
     checks/embedded.py [--crate FOLDER] [--sessions N] [--lines N] [--jobs N] [--only WORD]
 
 $HIPAC_LIBRARY names a libhipac.so, beside which libhipac.a lies. With --crate it is made first, by `rt lib` in this
-folder of the crate hipac_c. Otherwise it is the one that ./build hipac_c has made of the files as they stand. Without
-one, only what needs no proof is checked: the header, the packing of the client for Python, and how archives are joined
-and installed. A line says so.
+folder of the crate hipac_c. Otherwise it is the one that ./build hipac_c or tools/unproved_library.py has made of the
+files as they stand. Without one, only what needs none is checked: the header, the packing of the client for Python, and
+how archives are joined and installed. A line says so.
 
 The programs in C (checks/embedded) are linked with libhipac.a, and run plainly, under valgrind and with gcc's
 AddressSanitizer: no access out of bounds, no leak. Random sessions are those of checks/live_sessions.py: the same bytes
@@ -45,6 +45,9 @@ INCLUDE = os.path.join(TOP, "include")
 EXAMPLES = os.path.join(TOP, "examples")
 RULES = os.path.join(EXAMPLES, "orders", "rules.rules")
 
+# What an unproved library says once.
+UNPROVED = "hipac: checked at run time, not proved; ./build hipac_c makes the proved library\n"
+
 # The time limit of a command, in seconds: valgrind is slow.
 LIMIT = 1800
 
@@ -67,6 +70,10 @@ STATIC: list[list[str]] = [[], ["-static"]]
 # So many times fewer lines under valgrind, which takes some 50 times as long.
 FEWER = {"under valgrind": 20}
 
+# The most KiB by which the memory of many lines may grow: that of the system's pages. Both tools keep what was freed.
+MOST_GROWN = {"plainly": 256}
+KEPT_BY_TOOLS = 1_000_000
+
 
 @dataclass
 class Libraries:
@@ -82,7 +89,7 @@ def run(words: list[str], **how) -> str:
     """What a command prints, which must end with status 0 and say nothing on standard error."""
     done = subprocess.run(words, stdin=subprocess.DEVNULL, capture_output=True, text=True, timeout=LIMIT, check=False,
                           **how)
-    expect((done.returncode, done.stderr), (0, ""), " ".join(words))
+    expect((done.returncode, done.stderr.replace(UNPROVED, "")), (0, ""), " ".join(words))
     return done.stdout
 
 
@@ -327,7 +334,8 @@ def checks(them: Libraries, given: argparse.Namespace) -> Checks:
     """Those that take longest come first."""
     for way in reversed(WAYS):
         part = FEWER.get(way, 1)
-        for words in (["functions"], ["lines", str(given.lines // part)], ["threads", "100", "4"]):
+        lines = ["lines", str(given.lines // part), str(MOST_GROWN.get(way, KEPT_BY_TOOLS))]
+        for words in (["functions"], lines, ["threads", "100", "4"]):
             yield f"{way}: {' '.join(words)}", functools.partial(calls, them, way, words)
         yield f"{way}: refuse", functools.partial(calls, them, way, ["refuse"], refuses=True)
     for name, check in {"the client's tests": client_tests, "the desks": desks, "installed": installed,
@@ -343,8 +351,9 @@ def shared_library(crate: str, room: str) -> str:
         subprocess.run(["rt", "lib"], cwd=crate, stdin=subprocess.DEVNULL, check=True)
         library.make(os.path.join(crate, "out", f"lib{library.CRATE}.a"), os.path.join(room, "library"))
         return os.path.join(room, "library", library.SHARED)
-    built = os.path.join(repo.proved_place(library.CRATE), library.SHARED)
-    return os.environ.get("HIPAC_LIBRARY") or (built if os.path.isfile(built) else "")
+    places = [repo.proved_place(library.CRATE), repo.unproved_place(library.CRATE)]
+    found = [os.path.join(place, library.SHARED) for place in places if library.are_there(place)]
+    return os.environ.get("HIPAC_LIBRARY") or (found or [""])[0]
 
 
 def main() -> int:
@@ -364,7 +373,7 @@ def main() -> int:
             them = Libraries(os.path.abspath(shared), archive, room, command_of("hipac_live"))
             every += checks(them, given)
         else:
-            print("there is no library, which ./build hipac_c makes: only what needs none is checked")
+            print("there is no library, which tools/unproved_library.py makes: only what needs none is checked")
         return run_checks([it for it in every if given.only in it[0]], given.jobs)
 
 

@@ -1,7 +1,7 @@
 /* Calls each function of hipac.h, and checks the statuses and the answers.
 
    calls functions               every function, each twice, in both notations; lines that are wrong, empty, too long
-   calls lines COUNT             so many lines in constant memory
+   calls lines COUNT KIB         so many lines, of which the last nine tenths add at most so many KiB to the memory
    calls threads BASES THREADS   so many bases at once, so many to a thread
    calls refuse                  malloc and realloc refuse each allocation in turn; with --wrap, below
 
@@ -228,17 +228,17 @@ static void many(hipac_base *base, int is_text, long first, long stop) {
     }
 }
 
-static void lines(long count) {
+static void lines(long count, long most) {
     for (uint32_t options = 0; options < 4; options += HIPAC_TEXT) {
         hipac_base base = HIPAC_NONE;
         const char *script = options ? TEXT : SCRIPT;
         expect("a script", opened(&base, script, strlen(script), options), HIPAC_OK, "unit 1 committed\nok 1\n");
-        many(&base, !!options, 2, count / 100 + 2);
+        many(&base, !!options, 2, count / 10 + 2);
         long before = resident();
-        many(&base, !!options, count / 100 + 2, count + 2);
+        many(&base, !!options, count / 10 + 2, count + 2);
         long after = resident();
         printf("%ld lines: %ld KiB, and before %ld KiB\n", count, after, before);
-        if (after > before + 64)
+        if (after > before + most)
             exit((fputs("FAILED the memory has grown\n", stderr), 1));
         hipac_close(&base);
     }
@@ -375,13 +375,13 @@ static void refuse(void) { exit((fputs("calls: not made with REFUSES\n", stderr)
 int main(int count, char **words) {
     if (count == 2 && !strcmp(words[1], "functions"))
         functions();
-    else if (count == 3 && !strcmp(words[1], "lines"))
-        lines(atol(words[2]));
+    else if (count == 4 && !strcmp(words[1], "lines"))
+        lines(atol(words[2]), atol(words[3]));
     else if (count == 4 && !strcmp(words[1], "threads"))
         threads(atoi(words[2]), atoi(words[3]));
     else if (count == 2 && !strcmp(words[1], "refuse"))
         refuse();
     else
-        return fputs("usage: calls functions | lines COUNT | threads BASES THREADS | refuse\n", stderr), 2;
+        return fputs("usage: calls functions | lines COUNT KIB | threads BASES THREADS | refuse\n", stderr), 2;
     return 0;
 }

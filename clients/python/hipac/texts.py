@@ -6,7 +6,7 @@ import bisect
 import functools
 import json
 import re
-from typing import List, Mapping, Optional, Tuple
+from typing import Any, List, Mapping, Optional, Tuple
 
 from .answers import Value
 from .errors import Refused
@@ -109,7 +109,13 @@ class Form:
         """The line with these values; ValueError if one is missing or isn't used."""
         if len(values) != self._count or not self._known.issuperset(values):
             self.one_line(values)
-        return self._form % tuple([text_value(values[name]) for name in self.names])
+        found: Tuple[Any, ...] = tuple(map(values.__getitem__, self.names))
+        for value in found:
+            # (otherwise %s writes it as text_value does)
+            if type(value) is not int or value < 0:
+                found = tuple(map(text_value, found))
+                break
+        return self._form % found
 
     def one_line(self, values: Mapping[str, Value]) -> OneLine:
         """The same line, which knows where its tokens stood."""

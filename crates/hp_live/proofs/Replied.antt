@@ -1,5 +1,5 @@
 -- What became of a line, by what was read.
-use Rattle.std.proofs.Common.{◌≡◌, ◌∙◌, refl, sym, ap, subst, List, ℕ, Bool, Result, Ok, Err, String, Global, string_bytes}
+use Rattle.std.proofs.Common.{◌≡◌, ◌∙◌, refl, sym, ap, subst, List, ℕ, Result, Err, String, Global, string_bytes}
 use Rattle.hp_model.specs.Report.{Bytes}
 use Rattle.hp_rule.specs.Mapped.{library}
 use Rattle.hp_script.specs.Timed.{TimedScript}
@@ -12,7 +12,6 @@ use Rattle.hp_live.specs.Outcomes.{Replies, outcome_by}
 use Rattle.hp_live.specs.declared.base.RuleBase.{RuleBase}
 use Rattle.hp_live.specs.declared.server.Stage.{Stage}
 use Rattle.hp_live.specs.declared.server.Stage.TheVariants.{Up, Closed}
-use Rattle.hp_live.specs.declared.server.Outcome.{Outcome}
 use Rattle.hp_live.specs.declared.server.Reply.{Reply}
 use Rattle.hp_live.proofs.Asked.{asked_of}
 
