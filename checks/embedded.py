@@ -1,12 +1,11 @@
 #!/usr/bin/env python3
 """Checks the library for C: every function from C, sessions from C and from Python, its examples and its installation.
 
-    checks/embedded.py [--crate FOLDER] [--sessions N] [--lines N] [--jobs N] [--only WORD]
+    checks/embedded.py [--sessions N] [--lines N] [--jobs N] [--only WORD]
 
-$HIPAC_LIBRARY names a libhipac.so, beside which libhipac.a lies. With --crate it is made first, by `rt lib` in this
-folder of the crate hipac_c. Otherwise it is the one that ./build hipac_c or tools/unproved_library.py has made of the
-files as they stand. Without one, only what needs none is checked: the header, the packing of the client for Python, and
-how archives are joined and installed. A line says so.
+$HIPAC_LIBRARY names a libhipac.so, beside which libhipac.a lies. Otherwise the library is the one that ./build hipac_c
+or tools/unproved_library.py has made of the files as they stand. Without one, only what needs none is checked: the
+header, the packing of the client for Python, and how archives are joined and installed. A line says so.
 
 The programs in C (checks/embedded) are linked with libhipac.a, and run plainly, under valgrind and with gcc's
 AddressSanitizer: no access out of bounds, no leak. Random sessions are those of checks/live_sessions.py: the same bytes
@@ -345,12 +344,8 @@ def checks(them: Libraries, given: argparse.Namespace) -> Checks:
         yield f"session {seed}", functools.partial(session, them, seed)
 
 
-def shared_library(crate: str, room: str) -> str:
+def shared_library() -> str:
     """The library's path, or an empty one where there is none."""
-    if crate:
-        subprocess.run(["rt", "lib"], cwd=crate, stdin=subprocess.DEVNULL, check=True)
-        library.make(os.path.join(crate, "out", f"lib{library.CRATE}.a"), os.path.join(room, "library"))
-        return os.path.join(room, "library", library.SHARED)
     places = [repo.proved_place(library.CRATE), repo.unproved_place(library.CRATE)]
     found = [os.path.join(place, library.SHARED) for place in places if library.are_there(place)]
     return os.environ.get("HIPAC_LIBRARY") or (found or [""])[0]
@@ -358,14 +353,13 @@ def shared_library(crate: str, room: str) -> str:
 
 def main() -> int:
     parser = argparse.ArgumentParser(description=__doc__, formatter_class=argparse.RawDescriptionHelpFormatter)
-    parser.add_argument("--crate", default="", help="the folder of the crate, where rt makes the library")
     parser.add_argument("--sessions", type=int, default=300, help="how many sessions are made at random (300)")
     parser.add_argument("--lines", type=int, default=100_000, help="how many lines one base answers (100,000)")
     parser.add_argument("--jobs", type=int, default=os.cpu_count() or 1, help="how many checks go on at once")
     parser.add_argument("--only", default="", help="the checks whose names have this word")
     given = parser.parse_args()
     with tempfile.TemporaryDirectory(prefix="hipac-embedded-") as room:
-        shared = shared_library(given.crate, room)
+        shared = shared_library()
         every = list(checks_without_library())
         if shared:
             os.environ.update(ENVIRONMENT)

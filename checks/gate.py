@@ -87,7 +87,7 @@ FOLDERS = sorted({name.split("/")[0] for name in UNIT_TESTS})
 # How many pass in the tree: two in each script and one for each program that is made; the unit tests, one of app_tests,
 # and their layout.
 QUICK = 2 * (len(SCRIPTS) - 2) + 6 + len(UNIT_TESTS) + 2
-PROVED = QUICK + 7 + 2 * 7
+PROVED = QUICK + 7 + 2 * 6
 
 # The folders of tests in Python: the part of ./test that runs them, its script, and how many programs it needs.
 PYTHON_TESTS = {
@@ -204,7 +204,7 @@ def proves_all(tree):
     calls = tree.calls()
     proving = calls.index("rt ci")
     after = [it for it in calls[proving + 1 :]]
-    scripts = ("checking", "conditions", "embedded", "live_sessions", "notation", "programs", "version4")
+    scripts = ("checking", "conditions", "live_sessions", "notation", "programs", "version4")
     expect(sorted(it.split()[0] for it in after), [f"checks/{name}.py" for name in scripts], after)
     expect([it for it in after if "--proved" in it],
            [f"checks/programs.py --proved {tree.top}/crates/hipac/out/hipac"], "the check of the proved program")
