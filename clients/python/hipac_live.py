@@ -71,7 +71,7 @@ FAULTS = {"F1": "no memory", "F2": "a read failed", "F3": "a write failed"}
 
 REFUSALS = {
     "S1": "no JSON text", "S2": "a wrong shape", "S3": "no whole number of 64 bits", "S4": "an unknown or doubled name",
-    "S5": "over a limit", "S6": "an unknown version",
+    "S5": "over a limit", "S6": "an unknown version", "S8": "what may end with A3, A6 or A7",
 }
 """What the code of a refusal says."""
 
@@ -92,6 +92,8 @@ class Refused(HipacError):
     `code` is S1 to S6; S5 has a `limit`, the word of the limit. Of JSON, S2, S3 and S4 have a `path` into the line's
     value, and `part` is what stands there, if the path leads anywhere. Of a text, S1 to S4 have a `place`, the line and
     the column in the text that the call was given, both from 1, and `part` is what that line goes on with there.
+    A checked rule base has S8, too, whose `limit` is `kinds` or `depth`, or `kinds unit N` with a path in the body of
+    that unit of the script; `path` is that of the value, also of a text.
     """
 
     def __init__(self, code: str, path: Optional[str] = None, limit: Optional[str] = None, part: Any = None,
@@ -349,6 +351,8 @@ _REFUSED = re.compile(rf"refused (?:(?P<bare>S1|S6)|(?P<pathed>S[234]) (?P<path>
 _REFUSED_TEXT = re.compile(
     rf"refused (?:(?P<bare>S6)|(?P<placed>S[1-4]) (?P<line>{_COUNT}):(?P<column>{_COUNT})|{_OVER})")
 
+_CHECKED = re.compile(rf"refused (S8) (?:(kinds(?: unit {_COUNT})?) (/\S*)|(depth))")
+
 _UNIT = re.compile(rf"unit ({_COUNT})(?: time ({_COUNT}))? ({_END})")
 _DETACHED = re.compile(rf"(separate|dependent|exclusive) ({_NAME}) ({_END})")
 _EMIT = re.compile(rf"emit ({_VALUE})")
@@ -439,6 +443,9 @@ class _Reader:
 
     def _refused(self, line: str) -> Optional[Refused]:
         """A refusal as it is written: its place is that in the line that was sent."""
+        checked = _CHECKED.fullmatch(line)
+        if checked:
+            return Refused(checked[1], checked[3], checked[2] or checked[4])
         found = (_REFUSED_TEXT if self._is_text else _REFUSED).fullmatch(line)
         if found is None:
             return None
@@ -668,7 +675,8 @@ class _JsonLine(_Line):
         return moves[-1] if moves else None
 
     def explain(self, refused: Refused) -> Refused:
-        part = None if refused.path is None else _at_path(self.value, refused.path)
+        is_inside = refused.path is not None and refused.limit in (None, "kinds")
+        part = _at_path(self.value, refused.path) if is_inside else None
         return Refused(refused.code, refused.path, refused.limit, part)
 
 
@@ -1235,6 +1243,7 @@ class RuleBase:
       a minute or two. What is said on standard error is logged as warnings of "hipac_live".
     - `workers`: 1 to 64; the answers don't change.
     - `tree`: whether the units have trees.
+    - `checked`: whether what could ever end with A3, A6 or A7 is refused, the script too (`Refused`, S8).
     - `timeout`: so many seconds a line and its answer may take. If they take longer, the program is killed, and
       `TimedOut` is raised. The state is lost, unless there is a journal. Starting and replaying have no limit.
 
@@ -1243,7 +1252,7 @@ class RuleBase:
 
     def __init__(self, script: Optional[Script] = None, *, rules: Optional[Rules] = None,
                  program: Optional[Sequence[str]] = None, workers: Optional[int] = None, tree: bool = False,
-                 timeout: Optional[float] = None):
+                 checked: bool = False, timeout: Optional[float] = None):
         lines = _lines_of(script, rules)
         if lines is None:
             raise TypeError("a rule base is given a script, or rules")
@@ -1262,7 +1271,8 @@ class RuleBase:
         """How many lines of a journal were sent again, the script among them."""
         self.last_replayed: Union[Answer, Refused, None] = None
         """The answer to the last of these lines: perhaps nobody has had it yet."""
-        words = [*(["--workers", str(workers)] if workers else []), *(["--tree"] if tree else []), *lines.words]
+        flags = [word for word, is_set in (("--tree", tree), ("--checked", checked)) if is_set]
+        words = [*(["--workers", str(workers)] if workers else []), *flags, *lines.words]
         self._program = _Program([*(program or PROGRAM), *words])
         try:
             self.opening: List[Unit] = self._exchange(opening, is_sent=lines.is_sent).units

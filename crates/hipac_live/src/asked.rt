@@ -22,6 +22,8 @@ pub struct Asked {
     /// The bytes of the script's file, if one is named. Of a file that is longer than a script may be these are the
     /// first 1,048,577.
     pub script: Option<Vec<u8>>,
+    /// Whether the rule base refuses what could ever end with `A3`, `A6` or `A7`.
+    pub checked: bool,
 }
 
 /// Why a command line gives nothing to do.
@@ -54,6 +56,7 @@ pub fn asked_of<R: Env + Files + AllocGlobal>(rt: &R) -> Result<Asked, Unasked>
     Ok(Asked {
         options: live.options,
         script,
+        checked: live.checked,
     })
 }
 

@@ -5,3 +5,5 @@ pub mod Anywhere
 pub mod Journal
 pub mod Sessions
 pub mod Snapshots
+pub mod Checked
+pub mod Sound

@@ -11,10 +11,10 @@ use Rattle.hp_lines.specs.Live.{Manner, output}
 
 -- without trees
 abbrev in_json : Manner
-in_json = record { is_text = false; with_tree = false }
+in_json = record { is_text = false; with_tree = false; checks = None }
 
 abbrev in_text : Manner
-in_text = record { is_text = true; with_tree = false }
+in_text = record { is_text = true; with_tree = false; checks = None }
 
 -- units are numbered on, and a refused line changes nothing
 pub numbered_on : output in_json None (codes "{\"version\":1,\"classes\":[],\"rules\":[],\"items\":[[\"tx\",[]]]}\n[\"tx\",[[\"emit\",7]]]\n[\"tx\",[[\"emit\"]]]\n[\"tx\",[]]\n")

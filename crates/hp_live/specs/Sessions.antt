@@ -2,7 +2,7 @@
 --     IsSession s m t      the session s, which reads lines and answers them in the manner m, is at the stage t
 --     Gave s o m t l       what it keeps after the line l, which it took at the stage t
 --     show_line b          the line that asks for the whole state
-use Rattle.std.specs.Prelude.{◌≡◌, ◌++◌, Bool, true, false, codes}
+use Rattle.std.specs.Prelude.{◌≡◌, ◌++◌, Bool, true, false, None, codes}
 use Rattle.hp_lines.specs.Lines.{Line}
 use Rattle.hp_lines.specs.Live as L
 use Rattle.hp_live.specs.Kept.{IsStage, manner}
@@ -11,7 +11,7 @@ use Rattle.hp_live.specs.declared.server.Outcome.{Outcome}
 use Rattle.hp_live.specs.declared.session.Session.{Session}
 
 pub record IsSession (kept : Session) (m : L.Manner) (stage : L.Stage) : Type 0 where
-  pub manner_is : manner kept.options ≡ m
+  pub manner_is : manner kept.options None ≡ m
   pub stage_is : IsStage kept.stage stage
   pub whole : kept.lost ≡ false
 

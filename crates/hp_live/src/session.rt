@@ -1,6 +1,6 @@
 //! A rule base in the caller's own process.
 
-ghost use Rattle.std.specs.Prelude.{◌≡◌, [], IfOk, OnOk, OnErr, true, false};
+ghost use Rattle.std.specs.Prelude.{◌≡◌, [], None, IfOk, OnOk, OnErr, true, false};
 ghost use Rattle.hp_lines.specs.Live as L;
 ghost use Rattle.hp_live.specs.Kept.{manner};
 ghost use Rattle.hp_live.specs.Sessions.{IsSession, Gave, show_line};
@@ -31,7 +31,7 @@ impl Session {
         script: &[u8],
         options: Options,
     ) -> Result<(Session, Outcome), AllocError>
-        ensures { IfOk result (λ opened. Gave opened.0 opened.1 (manner options) L.unopened script.now) }
+        ensures { IfOk result (λ opened. Gave opened.0 opened.1 (manner options None) L.unopened script.now) }
     {
         let mut session = Session {
             options: Options {
@@ -61,7 +61,7 @@ impl Session {
             return Err(AllocError);
         }
         self.lost = true;
-        let reply = answer_at(&Alone, alloc, &mut self.stage, line, self.options)?;
+        let reply = answer_at(&Alone, alloc, &mut self.stage, line, self.options, None)?;
         self.answer = reply.text.into_bytes();
         self.lost = false;
         Ok(reply.outcome)

@@ -30,9 +30,9 @@ script_rule = record (new_rule (codes "script")) { long = Some (codes "script") 
 abbrev pub plain_app : App
 plain_app = with_rule (with_rule (with_rule (new_app (codes "program")) workers_rule) (flag_rule (codes "tree"))) (flag_rule (codes "text"))
 
--- the same with `[--script FILE]`, for a program that takes it
+-- the same with `[--script FILE] [--checked]`, for a program that takes them
 abbrev pub app : (takes_script : Bool) → App
-app takes_script = if takes_script then with_rule plain_app script_rule else plain_app
+app takes_script = if takes_script then with_rule (with_rule plain_app script_rule) (flag_rule (codes "checked")) else plain_app
 
 -- the row of each argument
 unfoldable pub rows_for : (takes_script : Bool) → List (List ℕ) → List Row
@@ -73,13 +73,18 @@ options_for takes_script words = accepted (faults_for takes_script words) (optio
 abbrev pub script_for : List (List ℕ) → Option (List ℕ)
 script_for words = first_of (codes "script") (rows_for true words)
 
+-- whether the rule base is checked
+abbrev pub checked_for : List (List ℕ) → Bool
+checked_for words = has_flag (codes "checked") (rows_for true words)
+
 -- the options of some command line
 abbrev pub AreOfWords : Options → Type 0
 AreOfWords options = (words : List (List ℕ)) × (options_for false words ≡ Some options)
 
--- the options and the script's file of some command line
-abbrev pub AreOfLiveWords : Options → Option (List ℕ) → Type 0
-AreOfLiveWords options script = (words : List (List ℕ)) × (options_for true words ≡ Some options) × (script ≡ script_for words)
+-- the options of some command line, its script's file, and whether the rule base is checked
+abbrev pub AreOfLiveWords : Options → (script : Option (List ℕ)) → (checked : Bool) → Type 0
+AreOfLiveWords options script checked =
+    (words : List (List ℕ)) × (options_for true words ≡ Some options) × (script ≡ script_for words) × (checked ≡ checked_for words)
 
 -- the program's exit status without options
 abbrev pub word_code_of : WordFault → ℕ

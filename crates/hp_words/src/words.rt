@@ -5,7 +5,7 @@ ghost use Rattle.std.specs.Option.{option_map};
 ghost use Rattle.clap.specs.Words.{one_of, first_of, rows_of, found_of, rule_of, app_of, kind_of, FailsBy};
 ghost use Rattle.hp_words.specs.Words.{app, plain_app, rows_for, faults_for, flag_rule, number_in, flag_in};
 ghost use Rattle.hp_words.specs.Words.{options_in, options_for};
-ghost use Rattle.hp_words.specs.Words.{script_for, AreOfWords, AreOfLiveWords, word_code_of};
+ghost use Rattle.hp_words.specs.Words.{script_for, checked_for, AreOfWords, AreOfLiveWords, word_code_of};
 ghost use Rattle.hp_words.specs.declared.words.WordFault.TheVariants.{NoMemory};
 
 use clap::error::ErrorKind;
@@ -32,6 +32,8 @@ pub struct LiveOptions {
     pub options: Options,
     /// The name of the file that has the script, if one is given. Else the first line is the script.
     pub script: Option<String>,
+    /// Whether the rule base refuses what could ever end with `A3`, `A6` or `A7`.
+    pub checked: bool,
 }
 
 /// Why there are no options.
@@ -66,18 +68,24 @@ pub fn parse_words(alloc: Global, words: &[String]) -> Result<Options, WordFault
     }
 }
 
-/// The options of a rule base that stays up, whose words may name the file of its script.
+/// The options of a rule base that stays up, whose words may name the file of its script and ask that it is checked.
 pub fn parse_live_words(alloc: Global, words: &[String]) -> Result<LiveOptions, WordFault>
     ensures ok { IfOk result (λ live. options_for true (map string_bytes words.now) ≡ Some live.options) }
     ensures script { IfOk result (λ live.
         option_map string_bytes live.script ≡ script_for (map string_bytes words.now)) }
+    ensures checked { IfOk result (λ live. live.checked ≡ checked_for (map string_bytes words.now)) }
     ensures refused { result ≡ Err WordFault.Refused → options_for true (map string_bytes words.now) ≡ None }
 {
     match matches_of(alloc, words, true) {
         Ok(matches) => {
             let options = options_in(&matches)?;
+            let checked = flag_in(&matches, "checked");
             let script = script_in(alloc, &matches)?;
-            Ok(LiveOptions { options, script })
+            Ok(LiveOptions {
+                options,
+                script,
+                checked,
+            })
         }
         Err(error) => Err(fault_by(&error)),
     }
@@ -108,7 +116,7 @@ pub fn options_of<R: Env + AllocGlobal>(rt: &R) -> Result<Options, WordFault>
 /// The options that the process of a rule base that stays up was started with. The contract says that they are those
 /// of some words.
 pub fn live_options_of<R: Env + AllocGlobal>(rt: &R) -> Result<LiveOptions, WordFault>
-    ensures { IfOk result (λ live. AreOfLiveWords live.options (option_map string_bytes live.script)) }
+    ensures { IfOk result (λ live. AreOfLiveWords live.options (option_map string_bytes live.script) live.checked) }
 {
     let words = own_words(rt)?;
     parse_live_words(rt.alloc(), words.as_slice())
@@ -148,13 +156,15 @@ fn plain_command<'a>(alloc: Global) -> Result<Command<'a>, AllocError>
         .arg(text)
 }
 
-/// The command, which takes the name of a script's file if `takes_script` says so.
+/// The command, which takes the name of a script's file, and `--checked`, if `takes_script` says so.
 fn command_for<'a>(alloc: Global, takes_script: bool) -> Result<Command<'a>, AllocError>
     ensures { IfOk result (λ command. app_of command ≡ app takes_script) }
 {
     let command = plain_command(alloc)?;
     if takes_script {
-        return command.arg(Arg::new(alloc, "script").long("script"));
+        let script = Arg::new(alloc, "script").long("script");
+        let checked = flag(alloc, "checked");
+        return command.arg(script)?.arg(checked);
     }
     Ok(command)
 }
