@@ -476,7 +476,8 @@ STATE_CHECKED = "object acct 1 bal=3\nrule add enabled\nok 1\n"
 # The lines after UP_CHECKED, and the answers.
 CHECKED_CASES = {
     "checked, an item": (json.dumps(["tx", [["signal", "go", [1]]]]), "unit 2 committed\nemit 2\nok 2\n"),
-    "checked, S8, an argument": (json.dumps(["tx", [["emit", 1], ["signal", "go", ["a"]]]]), "refused S8 kinds /1/1/2/0\n"),
+    "checked, S8, an argument": (json.dumps(["tx", [["emit", 1], ["signal", "go", ["a"]]]]),
+                                 "refused S8 kinds /1/1/2/0\n"),
     "checked, S8, too few arguments": (json.dumps(["tx", [["signal", "go", []]]]), "refused S8 kinds /1/0\n"),
     "checked, S8, a wrong kind": (json.dumps(["tx", [["if", 1, [], []]]]), "refused S8 kinds /1/0/1\n"),
     "checked, S8, the first of two": (json.dumps(["tx", [["emit", ["neg", "a"]], ["emit", ["not", 1]]]]),
