@@ -1,5 +1,5 @@
 -- What a checked rule base never meets.
-use Rattle.std.specs.Prelude.{◌≡◌, ℕ, IsTrue, ⊤, List, [], ◌∷◌, Some, Ok}
+use Rattle.std.specs.Prelude.{◌≡◌, ℕ, IsTrue, false, ⊤, List, [], ◌∷◌, Some, Ok}
 use Rattle.std.specs.List.{AllByRecursion}
 use Rattle.hp_model.specs.Values.{Cause}
 use Rattle.hp_model.specs.Rules.{Library}
@@ -52,6 +52,10 @@ LineFits manner closed l = ⊤
 abbrev pub LinesFit : Manner → Stage → List Line → Type 0
 LinesFit manner stage [] = ⊤
 LinesFit manner stage (l ∷ ls) = LineFits manner stage l × LinesFit manner (answer manner stage l).stage ls
+
+-- lines of JSON have no other numbers: what is read of them has 64 bits, or is refused
+abbrev pub JsonLinesFit : Type 0
+JsonLinesFit = (manner : Manner) (lines : List Line) → manner.is_text ≡ false → LinesFit manner unopened lines
 
 -- ---- the law
 
