@@ -3,4 +3,5 @@
 mod files;
 mod fixtures;
 mod serving;
+mod sessions;
 mod words;

@@ -1,21 +1,21 @@
 //! A rule base in the process of a C program.
 //!
-//! `include/hipac.h` says what a caller owes, and what each function does.
+//! `include/hipac.h` says what each function does, and what its caller owes.
 #![tactic(auto)]
 
-ghost use Rattle.std.specs.Prelude.{◌≡◌};
+ghost use Rattle.std.specs.Prelude.{◌≡◌, IfOk};
 ghost use Rattle.std.specs.Option.{option_map};
-ghost use Rattle.std.specs.declared.option.Option.TheVariants.{None};
+ghost use Rattle.hp_lines.specs.Live as L;
 ghost use Rattle.hp_live.specs.Kept.{manner};
-ghost use Rattle.hp_live.specs.Sessions.{show_line};
-ghost use Rattle.hipac_c.specs.Exports.{Opened, Answered, Again, manner_by, code};
+ghost use Rattle.hp_live.specs.Sessions.{Gave, GaveBy, in_json, show_line, get_line};
+ghost use Rattle.hipac_c.specs.Exports.{Opened, Answered, Again, Told, Nothing, manner_by, code};
 
 mod handle;
 mod loose;
 
 use handle::Handle;
 use hp_live::{Options, Outcome, Session};
-use std::alloc::Global;
+use std::alloc::{AllocError, Global};
 use std::ptr::null;
 
 /// Done.
@@ -49,7 +49,7 @@ fn status_of(outcome: Outcome) -> i32
 
 /// Options by their number, if it is known.
 fn options_by(number: u32) -> Option<Options>
-    ensures { option_map manner result ≡ manner_by number }
+    ensures { option_map (λ o. manner o None) result ≡ manner_by number }
 {
     match number {
         0 => Some(options_for(false, false)),
@@ -72,6 +72,45 @@ fn options_for(tree: bool, text: bool) -> Options
     }
 }
 
+/// Says where there is no answer.
+fn tell_nothing(answer: &mut *const u8, length: &mut usize)
+    ensures { Nothing answer.new length.new }
+{
+    *answer = null();
+    *length = 0;
+}
+
+/// Says that the handle has no base. The result is the status.
+fn tell_closed(answer: &mut *const u8, length: &mut usize) -> i32
+    ensures nothing { Nothing answer.new length.new }
+    ensures status { result ≡ code Outcome.Closed }
+{
+    tell_nothing(answer, length);
+    CLOSED
+}
+
+/// Says what came of a line, and where its answer is. The result is the status.
+fn tell(
+    base: &Session,
+    came: Result<Outcome, AllocError>,
+    answer: &mut *const u8,
+    length: &mut usize,
+) -> i32
+    ensures { Told base.now came answer.new length.new result }
+{
+    match came {
+        Ok(outcome) => {
+            *answer = base.answer.as_ptr();
+            *length = base.answer.len();
+            status_of(outcome)
+        }
+        Err(_) => {
+            tell_nothing(answer, length);
+            MEMORY
+        }
+    }
+}
+
 /// Opens a base by its script, and answers that. A base that the handle has is closed first.
 #[unsafe(no_mangle)]
 pub extern "C" fn hipac_open(
@@ -84,24 +123,31 @@ pub extern "C" fn hipac_open(
 ) -> i32
     ensures { Opened script.now options handle.new.kept answer.new length.new result }
 {
-    *answer = null();
-    *length = 0;
     let _before = handle.take(alloc);
-    let Some(options) = options_by(options) else {
-        return UNKNOWN;
-    };
-    match Session::open(alloc, script, options) {
-        Ok((session, outcome)) => match Box::new(alloc, session) {
-            Ok(session) => {
-                *answer = session.answer.as_ptr();
-                *length = session.answer.len();
-                handle.put(alloc, session);
-                status_of(outcome)
+    tell_nothing(answer, length);
+    match options_by(options) {
+        Some(options) => match open_boxed(alloc, script, options) {
+            Ok((base, outcome)) => {
+                let status = tell(&base, Ok(outcome), answer, length);
+                handle.put(alloc, base);
+                status
             }
             Err(_) => MEMORY,
         },
-        Err(_) => MEMORY,
+        None => UNKNOWN,
     }
+}
+
+/// A base in its box.
+fn open_boxed(
+    alloc: Global,
+    script: &[u8],
+    options: Options,
+) -> Result<(Box<Session>, Outcome), AllocError>
+    ensures { IfOk result (λ opened. Gave opened.0.value opened.1 (manner options None) L.unopened script.now) }
+{
+    let (base, outcome) = Session::open(alloc, script, options)?;
+    Ok((Box::new(alloc, base)?, outcome))
 }
 
 /// Answers a line. The answer's bytes stay with the base, and lie at `answer` until the next call with this base.
@@ -113,24 +159,17 @@ pub extern "C" fn hipac_line(
     answer: &mut *const u8,
     length: &mut usize,
 ) -> i32
-    ensures { Answered (λ _. line.now) handle.old.kept handle.new.kept answer.new length.new result }
+    ensures { Answered (λ base outcome m now. Gave base outcome m now line.now)
+        handle.old.kept handle.new.kept answer.new length.new result }
 {
-    *answer = null();
-    *length = 0;
     match handle.take(alloc) {
         Some(mut base) => {
-            let status = match base.line(alloc, line) {
-                Ok(outcome) => {
-                    *answer = base.answer.as_ptr();
-                    *length = base.answer.len();
-                    status_of(outcome)
-                }
-                Err(_) => MEMORY,
-            };
+            let came = base.line(alloc, line);
+            let status = tell(&base, came, answer, length);
             handle.put(alloc, base);
             status
         }
-        None => CLOSED,
+        None => tell_closed(answer, length),
     }
 }
 
@@ -142,24 +181,41 @@ pub extern "C" fn hipac_show(
     answer: &mut *const u8,
     length: &mut usize,
 ) -> i32
-    ensures { Answered (λ m. show_line m.is_text) handle.old.kept handle.new.kept answer.new length.new result }
+    ensures { Answered (λ base outcome m now. Gave base outcome m now (show_line m.is_text))
+        handle.old.kept handle.new.kept answer.new length.new result }
 {
-    *answer = null();
-    *length = 0;
     match handle.take(alloc) {
         Some(mut base) => {
-            let status = match base.show(alloc) {
-                Ok(outcome) => {
-                    *answer = base.answer.as_ptr();
-                    *length = base.answer.len();
-                    status_of(outcome)
-                }
-                Err(_) => MEMORY,
-            };
+            let came = base.show(alloc);
+            let status = tell(&base, came, answer, length);
             handle.put(alloc, base);
             status
         }
-        None => CLOSED,
+        None => tell_closed(answer, length),
+    }
+}
+
+/// Answers the JSON line that asks for the object of a class and a key, also where the other lines are text.
+#[unsafe(no_mangle)]
+pub extern "C" fn hipac_get(
+    alloc: Global,
+    handle: &mut Handle,
+    class: &[u8],
+    key: i64,
+    answer: &mut *const u8,
+    length: &mut usize,
+) -> i32
+    ensures { Answered (λ base outcome m now. GaveBy (in_json m) base outcome m now (get_line class.now key))
+        handle.old.kept handle.new.kept answer.new length.new result }
+{
+    match handle.take(alloc) {
+        Some(mut base) => {
+            let came = base.get(alloc, class, key);
+            let status = tell(&base, came, answer, length);
+            handle.put(alloc, base);
+            status
+        }
+        None => tell_closed(answer, length),
     }
 }
 
@@ -174,21 +230,18 @@ pub extern "C" fn hipac_again(
     ensures base { handle.new.kept ≡ handle.old.kept }
     ensures answer { Again handle.new.kept answer.new length.new result }
 {
-    *answer = null();
-    *length = 0;
     match handle.take(alloc) {
         Some(base) => {
-            let status = if base.lost {
-                MEMORY
+            let came = if base.lost {
+                Err(AllocError)
             } else {
-                *answer = base.answer.as_ptr();
-                *length = base.answer.len();
-                OK
+                Ok(Outcome::Done)
             };
+            let status = tell(&base, came, answer, length);
             handle.put(alloc, base);
             status
         }
-        None => CLOSED,
+        None => tell_closed(answer, length),
     }
 }
 
