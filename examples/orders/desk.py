@@ -68,7 +68,8 @@ TRANSACTIONS = {
     "pay": 'update order($number) set state = "paid"',
     "ship": 'update order($number) set state = "shipped"',
     "cancel": 'update order($number) set state = "cancelled"',
-    "deliver": "with product($product) as p { update product(p.key) set stock = p.stock + $count, awaited = false }",
+    "deliver": "with product($product) as p { update product(p.key) set stock = p.stock + $count, awaited = false "
+               "signal stocked(p.key) }",
     "complain": "with product($product) as p { signal complaint(p.key) }",
 }
 
@@ -259,7 +260,7 @@ def listening(*servers: socketserver.BaseServer) -> Iterator[List[threading.Thre
 def serve(path: str) -> int:
     """Takes requests while the journal is read, and answers them from then on."""
     with CountedJournal(path) as journal, Desk(journal) as desk, page.PageServer(desk) as pages:
-        with listening(desk, pages) as threads, RuleBase.recover(journal, rules=RULES) as base:
+        with listening(desk, pages) as threads, RuleBase.recover(journal, rules=RULES, checked=True) as base:
             desk.base = base
             print(f"desk: open on port {ADDRESS[1]}, with a page at {pages.url}; lines replayed: {base.replayed}; "
                   f"units so far: {base.units}", file=sys.stderr)

@@ -65,9 +65,11 @@ pub ended : (words : Options) (checked : Bool) (script : Option Bytes) (result :
 ended words checked script result code None old new is h = tt
 ended words checked script result code (Some input) old new is h =
     let d = h.0 in
-    let m = manner_of words (if checked then Some d else None) in
-    (d, record {
-      code_is = code_by m script input result code is h.1.status;
-      output = unless_fault result code is h.1.output;
-      begins = h.1.begins;
-    })
+    let m = manner_of words (if checked then Some d else None) in (
+      d,
+      record {
+        code_is = code_by m script input result code is h.1.status;
+        output = unless_fault result code is h.1.output;
+        begins = h.1.begins;
+      },
+    )

@@ -1,8 +1,9 @@
 //! Why a checked rule base refuses a script or a line.
 
-ghost use Rattle.std.specs.Prelude.{◌≡◌, [], ◌∷◌, ◌++◌, IfOk, OnOk, option_map, string_bytes, map, flat_map};
+ghost use Rattle.std.specs.Prelude.{◌≡◌, [], ◌∷◌, ◌++◌, IfOk, OnOk, Some, None, option_map, string_bytes, map, flat_map};
 ghost use Rattle.hp_model.specs.Output.{path_text};
 ghost use Rattle.hp_model.specs.Refusals.{to_item};
+ghost use Rattle.hp_report.specs.Text.{Gains};
 ghost use Rattle.hp_rule.specs.Libraries as libraries;
 ghost use Rattle.hp_rule.specs.Mapped.{unit};
 ghost use Rattle.hp_script.specs.Asked as asked;
@@ -20,17 +21,47 @@ use hp_analysis::{Declaration, Finding, Graph, KindFinding, kind_findings, unit_
 use hp_rule::{Library, Unit};
 use hp_script::{Request, Script};
 use std::alloc::{AllocError, Global};
+use std::fmt::Write;
+
+/// Adds the line that refuses a script for a finding in a unit.
+fn put_in_unit(out: &mut String, number: usize, found: &Finding) -> Result<(), AllocError>
+    ensures { OnOk result (Gains out.old out.new
+        (definitions.kinds_refusal (place_words (Some number) (finding found.now).path))) }
+{
+    let path = Path(found.path.as_slice());
+    writeln!(out, "refused S8 kinds unit {number} {path}")?;
+    Ok(())
+}
+
+/// Adds the line that refuses a script for a finding in a rule.
+fn put_in_rule(out: &mut String, found: &Finding) -> Result<(), AllocError>
+    ensures { OnOk result (Gains out.old out.new
+        (definitions.kinds_refusal (place_words None (finding found.now).path))) }
+{
+    let path = Path(found.path.as_slice());
+    writeln!(out, "refused S8 kinds {path}")?;
+    Ok(())
+}
+
+/// Adds the line that refuses a script for its first finding.
+fn put_refusal(out: &mut String, found: &KindFinding) -> Result<(), AllocError>
+    ensures { OnOk result (Gains out.old out.new (definitions.kinds_refusal
+        (place_words (kind_finding found.now).unit (kind_finding found.now).finding.path))) }
+{
+    match found.unit {
+        Some(number) => put_in_unit(out, number, &found.finding),
+        None => put_in_rule(out, &found.finding),
+    }
+}
 
 /// The line that refuses a script for its first finding.
 fn kinds_refusal(alloc: Global, found: &KindFinding) -> Result<String, AllocError>
     ensures { IfOk result (λ line. string_bytes line ≡ definitions.kinds_refusal
         (place_words (kind_finding found.now).unit (kind_finding found.now).finding.path)) }
 {
-    let path = Path(found.finding.path.as_slice());
-    match found.unit {
-        Some(number) => format!(in alloc; "refused S8 kinds unit {number} {path}\n"),
-        None => format!(in alloc; "refused S8 kinds {path}\n"),
-    }
+    let mut line = String::new(alloc);
+    put_refusal(&mut line, found)?;
+    Ok(line)
 }
 
 /// The line that refuses a script for the findings in it; nothing if there are none.

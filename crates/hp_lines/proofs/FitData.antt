@@ -221,8 +221,8 @@ members_of (Some v) depth (Some c) (Some r) None root h k e = cc
 pub root_fits : (d : Data) (root : Root) → DataFits d → root_of d ≡ Some root → RootFits root
 root_fits d root h e =
     let c = chained (λ count. if count == wanted_count (get (codes "depth") d)
-        then root_members (get (codes "version") d) (get (codes "depth") d) (get (codes "classes") d) (get (codes "rules") d) (get (codes "items") d)
-        else None) (member_count d) root e in
+    then root_members (get (codes "version") d) (get (codes "depth") d) (get (codes "classes") d) (get (codes "rules") d) (get (codes "items") d)
+    else None) (member_count d) root e in
     members_of (get (codes "version") d) (get (codes "depth") d) (get (codes "classes") d) (get (codes "rules") d) (get (codes "items") d) root
     (λ x is. get_fits (codes "rules") d x h is) (λ x is. get_fits (codes "items") d x h is)
     (tested (c.0 == wanted_count (get (codes "depth") d)) (root_members (get (codes "version") d) (get (codes "depth") d) (get (codes "classes") d) (get (codes "rules") d) (get (codes "items") d)) root c.2).1

@@ -1,5 +1,6 @@
 -- Lines of JSON fit.
 use Rattle.std.proofs.Common.{◌≡◌, refl, Bool, true, false, IsTrue, List, [], ◌∷◌, Option, None, Some, Result, Ok, Err}
+use Rattle.std.specs.Prelude.{⊤}
 use Rattle.hp_model.specs.Kinds.{Declared}
 use Rattle.hp_model.specs.Decode.{Schedule}
 use Rattle.hp_model.specs.Output.{refusal_text}

@@ -173,7 +173,7 @@ library_reads version root h =
 
 -- ---- units
 
-abbrev TimeFits : ℕ → Type 0
+abbrev pub TimeFits : ℕ → Type 0
 TimeFits t = IsTrue (fits_64 (pos t))
 
 less_fits : (most t until : ℕ) → t ≤ until → nat_lt until most ≡ true → nat_lt t most ≡ true
@@ -203,8 +203,11 @@ module _ (version : Version) (library : Library) where
   transaction_reads before fit path d h =
       Reads-then (statements_reads (library_scope library) (record { version = version; names = S.no_names }) (item_at path 1) d h) λ ss fits.
       let body : BodyFits (length library.classes) ss = subst (λ n. BodyFits n ss) (named library) fits in
-      Reads-value _ (all_append UnitFits before.units (transaction before.clock (body_of ss) ∷ []) fit.0
-      (and_from (fits_64 (pos before.clock)) (body_fits (length library.classes) (body_of ss)) fit.1 body, tt), fit.1)
+      Reads-value _ (
+        all_append UnitFits before.units (transaction before.clock (body_of ss) ∷ []) fit.0
+            (and_from (fits_64 (pos before.clock)) (body_fits (length library.classes) (body_of ss)) fit.1 body, tt),
+        fit.1,
+      )
 
   clock_reads : (before : Schedule) → ScheduleFits before → Fits ScheduleFits (λ path d. clock_at library.rules path before d)
   unfolding clock_at

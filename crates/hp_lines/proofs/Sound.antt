@@ -97,7 +97,7 @@ units_judged : (library : Library) (d : Declared) (us : List Unit) → finds_not
 units_judged library d [] h = tt
 units_judged library d (u ∷ us) h =
     let parts = and_parts (finds_nothing (unit_findings library d u)) (finds_nothing (flat_map (unit_findings library d) us))
-        (sym (both_nothing (unit_findings library d u) (flat_map (unit_findings library d) us)) ∙ h) in
+    (sym (both_nothing (unit_findings library d u) (flat_map (unit_findings library d) us)) ∙ h) in
     (sym (unit_judged library d u) ∙ parts.0, units_judged library d us parts.1)
 
 -- a least number passes the test, and is not above the last one
@@ -174,7 +174,7 @@ opening_sound with_tree d read fit (Ok t) is =
     let fs = kind_findings library d t.script.units in
     let known = depth_passes fs (library_depth library) passes.none in
     let kinded = and_parts (library_kinded library d) (list_all (unit_kinded library d) t.script.units)
-        (sym (script_judged library d t.script.units) ∙ kinds_pass fs (depth_fault (library_depth library)) passes.none) in
+    (sym (script_judged library d t.script.units) ∙ kinds_pass fs (depth_fault (library_depth library)) passes.none) in
     let fitting = fit t passes.read_is in
     ran_sound with_tree d (new_base t.version library) (record { units = t.script.units; clock = t.clock })
     (record {
@@ -230,7 +230,7 @@ module _ (manner : Manner) (d : Declared) (lines : List Line) (is : manner.check
   all_by (Some x) e f =
       let same : d ≡ x = cc in
       subst (λ y. LinesFit (by manner (Some y)) unopened lines → AllByRecursion (ReportHasOnly (everywhere SoundCause)) (reports (by manner (Some y)) unopened lines)
-          × IsSoundStage d (stage_after (by manner (Some y)) unopened lines)) same
+      × IsSoundStage d (stage_after (by manner (Some y)) unopened lines)) same
       (λ g. lines_sound manner d unopened lines tt g) f
 
   whole : AllByRecursion (ReportHasOnly (everywhere SoundCause)) (reports manner unopened lines) × IsSoundStage d (stage_after manner unopened lines)

@@ -76,12 +76,7 @@ impl Session {
 
     /// Answers the JSON line that asks for the object of a class and a key, and keeps the answer. The notation has no
     /// such line, so it is JSON in each session. The name of the class stands in it as it is given.
-    pub fn get(
-        &mut self,
-        alloc: Global,
-        class: &[u8],
-        key: i64,
-    ) -> Result<Outcome, AllocError>
+    pub fn get(&mut self, alloc: Global, class: &[u8], key: i64) -> Result<Outcome, AllocError>
         ensures answer { IfOk result (λ outcome. (m : L.Manner) (now : L.Stage) →
             IsSession self.old m now → GaveBy (in_json m) self.new outcome m now (get_line class.now key)) }
         // A lost session answers nothing more.

@@ -70,11 +70,7 @@ impl Start {
     }
 
     /// What a checked run begins with, if its script is the first line.
-    fn by_line<R: Source>(
-        alloc: Global,
-        is_text: bool,
-        reader: &mut R,
-    ) -> Result<Start, Fault>
+    fn by_line<R: Source>(alloc: Global, is_text: bool, reader: &mut R) -> Result<Start, Fault>
         requires { R.has_failed reader.old ≡ false }
         ensures script { IfOk result (λ start. start.script ≡ None) }
         ensures checks { IfOk result (λ start. is_some start.checks ≡ true) }

@@ -10,7 +10,7 @@ returns-in-Some c =
     let fits : SFits w32 c.tell-status.result = search rules in
     let key = to_z w64 (of_z w64 c.args.key) in
     subst (λ (k : ℤ). Answered (λ base outcome m now. GaveBy (in_json m) base outcome m now (get_line c.args.class.now k))
-      c.args.handle.now.kept c.put.new.self.kept c.tell-status.new.answer c.tell-status.new.length (to_z w32 (of_z w32 c.tell-status.result)))
+    c.args.handle.now.kept c.put.new.self.kept c.tell-status.new.answer c.tell-status.new.length (to_z w32 (of_z w32 c.tell-status.result)))
     (to_z-of_z w64 c.args.key c.ranges.key)
     (answered (λ base outcome m now. GaveBy (in_json m) base outcome m now (get_line c.args.class.now key))
     c.args.handle.now.kept c.put.new.self.kept c.in-Some.base.value c.deref_mut.result.now c.get-came.new.self c.deref.result.now

@@ -15,7 +15,7 @@ returns-clause-answers g c =
     let a = c.args.asked in
     let start = c.in_ok-start.start in
     let done = answered a.options c.options_for-options.result start.checks a.checked (bytes_of start.script) c.run.result (g.R.Source.remaining c.args.reader.now)
-        (g.R.Source.remaining c.of.new.reader) (g.W.Sink.contents c.args.writer.now) (g.W.Sink.contents c.run.new.writer) start.ahead.items
-        c.options_for-options.ensures.manner c.in_ok-start.ensures.checks c.in_ok-start.ensures.ahead c.run.ensures.output c.run.ensures.status c.run.ensures.begins in
+    (g.R.Source.remaining c.of.new.reader) (g.W.Sink.contents c.args.writer.now) (g.W.Sink.contents c.run.new.writer) start.ahead.items
+    c.options_for-options.ensures.manner c.in_ok-start.ensures.checks c.in_ok-start.ensures.ahead c.run.ensures.output c.run.ensures.status c.run.ensures.begins in
     subst (λ (s : Option _). IfSome (g.R.Source.remaining c.args.reader.now) (λ input. ForManner a.options a.checked
     (λ m. Answers m (bytes_of s) input c.run.result (g.W.Sink.contents c.args.writer.now) (g.W.Sink.contents c.run.new.writer)))) c.in_ok-start.ensures.script done

@@ -11,6 +11,6 @@ returns-in-Ok-clause-answer c =
     let key = ap (λ (k : ℤ). get_line c.args.class.now k) (to_z-of_z w64 c.args.key c.ranges.key) in
     IfOk-weaker c.read_by.result _ _
     (λ outcome f m now is.
-      subst (λ (l : Line). GaveBy (in_json m) c.read_by.new.self outcome m now l) (c.deref.ensures.value ∙ c.in-Ok.ensures ∙ key)
-      (subst (λ (r : L.Manner). GaveBy (in_json r) c.read_by.new.self outcome m now c.deref.result.now) is.manner_is (f m now is)))
+    subst (λ (l : Line). GaveBy (in_json m) c.read_by.new.self outcome m now l) (c.deref.ensures.value ∙ c.in-Ok.ensures ∙ key)
+    (subst (λ (r : L.Manner). GaveBy (in_json r) c.read_by.new.self outcome m now c.deref.result.now) is.manner_is (f m now is)))
     c.read_by.ensures.answer
