@@ -485,7 +485,8 @@ CHECKED_CASES = {
     "checked, S8, an occurrence": (json.dumps(["tx", [["emit", ["id", 0]]]]), "refused S8 kinds /1/0/1\n"),
     "checked, S4": (json.dumps(["tx", [["emit", ["neg", "a"]], ["install", "nobody"]]]), "refused S4 /1/1/1\n"),
     "checked, a move of the clock": ('["clock",9]', "ok 1\n"),
-    "checked, A4": (json.dumps(["tx", [["signal", "go", [2**63 - 1]]]]), "unit 2 aborted A4\nok 2\n"),
+    "checked, A4": (json.dumps(["tx", [["emit", ["+", 2**63 - 1, 1]]]]), "unit 2 aborted A4\nok 2\n"),
+    "checked, A4 in a rule": (json.dumps(["tx", [["signal", "go", [2**63 - 1]]]]), "unit 2 committed\nok 2\n"),
 }
 
 # First lines that a checked rule base refuses, and what it says.

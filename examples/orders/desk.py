@@ -51,7 +51,6 @@ PATIENCE = 10
 REASONS = {
     "A1": "that number is taken",
     "A2": "there is nothing of that number",
-    "A3": "a number is wanted there",
     "A9": "the numbers are too large",
 }
 
@@ -135,6 +134,8 @@ def end_of(units: List[Unit]) -> str:
 
 def reason_of(refused: Refused, word: str, base: RuleBase) -> str:
     """Why a request was refused, in the words of a client, who has seen no rules and no paths."""
+    if refused.code == "S8":
+        return "a number is wanted there"
     if word == "clock" and refused.limit is None:
         return f"the clock doesn't go back: it is minute {base.time}"
     return "that is too long" if refused.limit else "that can't be asked"

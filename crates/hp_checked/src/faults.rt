@@ -140,13 +140,24 @@ fn units_findings(
     Ok(all)
 }
 
+/// Adds the line that refuses an item for the first finding in its body.
+fn put_body_refusal(out: &mut String, found: &Finding) -> Result<(), AllocError>
+    ensures { OnOk result (Gains out.old out.new
+        (definitions.kinds_refusal (path_text (to_item 1 ∷ (finding found.now).path) ∷ []))) }
+{
+    let steps = Steps(found.path.as_slice());
+    writeln!(out, "refused S8 kinds /1{steps}")?;
+    Ok(())
+}
+
 /// The line that refuses an item for the first finding in its body.
 fn body_refusal(alloc: Global, found: &Finding) -> Result<String, AllocError>
     ensures { IfOk result (λ line. string_bytes line
         ≡ definitions.kinds_refusal (path_text (to_item 1 ∷ (finding found.now).path) ∷ [])) }
 {
-    let steps = Steps(found.path.as_slice());
-    format!(in alloc; "refused S8 kinds /1{steps}\n")
+    let mut line = String::new(alloc);
+    put_body_refusal(&mut line, found)?;
+    Ok(line)
 }
 
 /// The line that refuses an item for the findings in its body; nothing if there are none.
