@@ -96,7 +96,7 @@ fn open<T: Workers>(
 ) -> Result<(Reply, Stage), AllocError>
     requires ready { T.ready workers.now }
     ensures { IfOk result (λ opened.
-        Replies opened.0 opened.1 (manner options (declared_by checks)) L.unopened line.now) }
+        Replies opened.0 opened.1 (manner options (declared_by checks.entry)) L.unopened line.now) }
 {
     let reading = Reading {
         is_text: options.text,
@@ -123,7 +123,7 @@ fn answer_later<T: Workers>(
 ) -> Result<Reply, AllocError>
     requires ready { T.ready workers.now }
     ensures { IfOk result (λ reply. (now : L.RuleBase) → StandsFor base.old now →
-        Replies reply (Stage.Up base.new) (manner options (declared_by checks)) (L.up now) line.now) }
+        Replies reply (Stage.Up base.new) (manner options (declared_by checks.entry)) (L.up now) line.now) }
 {
     let reading = Reading {
         is_text: options.text,
@@ -150,7 +150,7 @@ pub(crate) fn answer_at<T: Workers>(
 ) -> Result<Reply, AllocError>
     requires ready { T.ready workers.now }
     ensures { IfOk result (λ reply. (now : L.Stage) → IsStage stage.old now →
-        Replies reply stage.new (manner options (declared_by checks)) now line.now) }
+        Replies reply stage.new (manner options (declared_by checks.entry)) now line.now) }
 {
     match stage {
         Stage::Unopened => {
