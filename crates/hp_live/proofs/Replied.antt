@@ -1,5 +1,5 @@
 -- What became of a line, by what was read.
-use Rattle.std.proofs.Common.{◌≡◌, ◌∙◌, refl, sym, ap, subst, List, ℕ, Result, Ok, Err, String, Global, string_bytes}
+use Rattle.std.proofs.Common.{◌≡◌, ◌∙◌, refl, sym, ap, subst, List, ℕ, Result, Err, String, Global, string_bytes}
 use Rattle.hp_model.specs.Report.{Bytes}
 use Rattle.hp_script.specs.Timed.{TimedScript}
 use Rattle.hp_script.specs.Requests.{Request}
