@@ -1,6 +1,6 @@
 //! Groups of sibling firings.
 
-ghost use Rattle.std.specs.Prelude.{◌≡◌, ◌+◌, ◌<◌, ◌≤◌, None, false, IfOk, OnOk, All, map, option_map, length};
+ghost use Rattle.std.specs.Prelude.{◌≡◌, ◌+◌, ◌<◌, ◌≤◌, None, false, IfOk, OnOk, OnErr, All, map, option_map, length};
 ghost use Rattle.hp_value.specs.Mapped.{veto as veto_in};
 ghost use Rattle.hp_rule.specs.Mapped.{library, task as task_of};
 ghost use Rattle.hp_board.specs.Deal.{IsSeatOf};
@@ -13,13 +13,12 @@ ghost use Rattle.hp_fire.specs.Statements.{SiblingsFire, TaskFires};
 use crate::course::GroupOutcome;
 use crate::engine::Engine;
 use crate::speculate::channel::Receiver;
-use crate::speculate::extents::share_beneath;
 use crate::speculate::past::{Effort, Past};
 use crate::speculate::policy::{do_workers_pay, is_time_to_ask};
 use crate::speculate::progress::Progress;
 use crate::speculate::settled::Settled;
 use crate::speculate::start::{Plan, Start, prepare};
-use crate::speculate::wave::{Job, Wave};
+use crate::speculate::wave::{Job, Wave, jobs_for};
 use crate::speculate::workers::{Alone, Workers};
 use hp_attempt::Outcome;
 use hp_board::Seat;
@@ -173,7 +172,8 @@ impl<W: Workers, F: Fn(&mut View, &Task, &Effort, usize) -> Result<Outcome, Allo
         Ok(())
     }
 
-    /// Runs a wave if one is due, which settles tasks from their attempts.
+    /// Runs a wave if one is due, which settles tasks from their attempts. If memory runs out before the wave begins,
+    /// there is no wave. An error means that memory ran out in a wave.
     fn settle_by_wave(&self, view: &mut View, progress: &mut Progress) -> Result<(), AllocError>
         requires ready { W.ready self.now.workers.now }
         requires fires { All (MayFire F.Fn self.now.fire.now) self.now.tasks.now }
@@ -181,34 +181,30 @@ impl<W: Workers, F: Fn(&mut View, &Task, &Effort, usize) -> Result<Outcome, Allo
         requires going { GoesOnBelow progress.old.settled (length self.now.tasks.now) }
         requires counted { IsCounted progress.old }
         requires sound { AreSound (library self.now.lib.now) progress.old.pending.attempts.items }
-        ensures { let tasks = map task_of self.now.tasks.now in
+        ensures comes { let tasks = map task_of self.now.tasks.now in
             OnOk result (ComesByWave (library self.now.lib.now) self.now.stop_at_veto tasks
             view.old progress.old view.new progress.new) }
+        ensures begun { OnErr result (progress.old.counts.waves < progress.new.counts.waves) }
     {
         if !progress.is_wave_due(view, self.width) {
             return Ok(());
         }
-        let done = progress.settled.outcomes.len();
-        share_beneath(self.alloc, self.lib, &self.tasks[done..], view)?;
         let plan = Plan {
             lib: self.lib,
             tasks: self.tasks,
-            done,
+            done: progress.settled.outcomes.len(),
             stop_at_veto: self.stop_at_veto,
             width: self.width,
         };
-        progress.pending.drop_first_and_stale(view);
-        let Ok(start) = prepare(plan, self.alloc, view, &progress.pending) else {
+        let Ok(start) = prepare(plan, self.alloc, view, &mut progress.pending) else {
             // Memory ran out: the owner runs the next task.
             return Ok(());
         };
+        let Start { wave, seat, seats } = start;
+        let Ok((jobs, mut receivers)) = jobs_for(self.alloc, self.lib, &wave, seats) else {
+            return Ok(());
+        };
         progress.begin_wave();
-        let Start {
-            wave,
-            seat,
-            jobs,
-            mut receivers,
-        } = start;
         self.run_wave(&wave, (seat, jobs), &mut receivers, view, progress)
     }
 
@@ -226,21 +222,16 @@ impl<W: Workers, F: Fn(&mut View, &Task, &Effort, usize) -> Result<Outcome, Allo
         requires ready { W.ready self.now.workers.now }
         requires wave { IsWave wave.now }
         requires seat { IsSeatOf wave.now.board.deal seats.0 }
-        requires jobs { All (IsJob (library self.now.lib.now) wave.now.board.deal) seats.1.items }
+        requires jobs { All (IsJob (library self.now.lib.now) wave.now) seats.1.items }
         requires channels { AreOf (library self.now.lib.now) receivers.old.items }
         requires accepted { IsAcceptedWithin progress.old }
         requires sound { AreSound (library self.now.lib.now) progress.old.pending.attempts.items }
-        ensures { OnOk result (ComesInWave (library self.now.lib.now) wave.now
+        ensures comes { OnOk result (ComesInWave (library self.now.lib.now) wave.now
             view.old progress.old view.new progress.new) }
+        ensures waves { progress.new.counts.waves ≡ progress.old.counts.waves }
     {
-        let engine = Engine {
-            workers: &Alone,
-            alloc: self.alloc,
-            lib: self.lib,
-            width: (self.width / (seats.1.len() + 1)).max(1),
-            past: self.past,
-            effort: self.effort,
-        };
+        let width = (self.width / (seats.1.len() + 1)).max(1);
+        let engine = Engine::counting(&Alone, self.alloc, self.lib, width, self.past, self.effort);
         let (found, accepted) = self
             .workers
             .try_all(&engine, wave, seats, view, progress, receivers);

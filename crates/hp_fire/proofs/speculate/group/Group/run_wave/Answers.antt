@@ -6,8 +6,8 @@ use Rattle.hp_fire.specs.Groups.{ComesInWave}
 use Rattle.hp_fire.proofs.Coming.{comes_then, comes_put}
 use Rattle.hp_fire.proofs.speculate.group.Group.run_wave.Goals as goal
 
-pub returns : goal.returns
-returns g c =
+pub returns-clause-comes : goal.returns-clause-comes
+returns-clause-comes g c =
     let lib = library c.args.self.now.lib.now in
     let tried = c.try_all-found.new.progress in
     let came : ComesInWave lib c.args.wave.now c.args.view.now c.args.progress.now c.try_all-found.new.view c.try_all-found.new.progress = search rules in
