@@ -4,8 +4,8 @@
     checks/embedded.py [--sessions N] [--lines N] [--jobs N] [--only WORD]
 
 $HIPAC_LIBRARY names a libhipac.so, beside which libhipac.a lies. Otherwise the library is the one that ./build hipac_c
-or tools/unproved_library.py has made of the files as they stand. Without one, only what needs none is checked: the
-header, the packing of the client for Python, and how archives are joined and installed. A line says so.
+has made of the files as they stand. Without one, only what needs none is checked: the header, the packing of the client
+for Python, and how archives are joined and installed. A line says so.
 
 The programs in C (checks/embedded) are linked with libhipac.a, and run plainly, under valgrind and with gcc's
 AddressSanitizer: no access out of bounds, no leak. Random sessions are those of checks/live_sessions.py: the same bytes
@@ -43,9 +43,6 @@ HERE = os.path.join(TOP, "checks", "embedded")
 INCLUDE = os.path.join(TOP, "include")
 EXAMPLES = os.path.join(TOP, "examples")
 RULES = os.path.join(EXAMPLES, "orders", "rules.rules")
-
-# What an unproved library says once.
-UNPROVED = "hipac: checked at run time, not proved; ./build hipac_c makes the proved library\n"
 
 # The time limit of a command, in seconds: valgrind is slow.
 LIMIT = 1800
@@ -88,7 +85,7 @@ def run(words: list[str], **how) -> str:
     """What a command prints, which must end with status 0 and say nothing on standard error."""
     done = subprocess.run(words, stdin=subprocess.DEVNULL, capture_output=True, text=True, timeout=LIMIT, check=False,
                           **how)
-    expect((done.returncode, done.stderr.replace(UNPROVED, "")), (0, ""), " ".join(words))
+    expect((done.returncode, done.stderr), (0, ""), " ".join(words))
     return done.stdout
 
 
@@ -346,9 +343,9 @@ def checks(them: Libraries, given: argparse.Namespace) -> Checks:
 
 def shared_library() -> str:
     """The library's path, or an empty one where there is none."""
-    places = [repo.proved_place(library.CRATE), repo.unproved_place(library.CRATE)]
-    found = [os.path.join(place, library.SHARED) for place in places if library.are_there(place)]
-    return os.environ.get("HIPAC_LIBRARY") or (found or [""])[0]
+    place = repo.proved_place(library.CRATE)
+    built = os.path.join(place, library.SHARED) if library.are_there(place) else ""
+    return os.environ.get("HIPAC_LIBRARY") or built
 
 
 def main() -> int:
@@ -367,7 +364,7 @@ def main() -> int:
             them = Libraries(os.path.abspath(shared), archive, room, command_of("hipac_live"))
             every += checks(them, given)
         else:
-            print("there is no library, which tools/unproved_library.py makes: only what needs none is checked")
+            print("there is no library, which ./build hipac_c makes: only what needs none is checked")
         return run_checks([it for it in every if given.only in it[0]], given.jobs)
 
 

@@ -34,7 +34,6 @@ SCRIPTS = (
     "examples/orders/page_test.py",
     "editors/tests/run.py",
     "tools/unproved.py",
-    "tools/unproved_library.py",
     "tools/tests/run.py",
     "tools/tests/browser_test.py",
     "clients/python/tests/run.py",
@@ -86,7 +85,7 @@ FOLDERS = sorted({name.split("/")[0] for name in UNIT_TESTS})
 
 # How many pass in the tree: two in each script and one for each program that is made; the unit tests, one of app_tests,
 # and their layout.
-QUICK = 2 * (len(SCRIPTS) - 2) + 6 + len(UNIT_TESTS) + 2
+QUICK = 2 * (len(SCRIPTS) - 1) + 5 + len(UNIT_TESTS) + 2
 PROVED = QUICK + 7 + 2 * 6
 
 # The folders of tests in Python: the part of ./test that runs them, its script, and how many programs it needs.

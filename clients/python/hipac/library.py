@@ -40,20 +40,13 @@ class _Handle(ctypes.Structure):
     _fields_ = [("at", ctypes.c_void_p)]
 
 
-# What each of the repository's libraries is made from: the proved one, and the one that is checked at run time.
-_MADE_FROM = {"proved": ("src", "specs", "proofs"), "unproved": ("src",)}
-
-
 def _built() -> Optional[Path]:
-    """The library that was made of the repository's files as they stand: the proved one if there is one."""
-    for kind, folders in _MADE_FROM.items():
-        if list(_ABOVE.glob(f".built/hipac_c-{kind}-*")):
-            words = [str(_ABOVE / "tools" / "key"), str(_ABOVE), "hipac_c", *folders]
-            said = subprocess.run(words, stdin=subprocess.DEVNULL, stdout=subprocess.PIPE, text=True, check=True).stdout
-            path = _ABOVE / ".built" / f"hipac_c-{kind}-{said.strip()}" / "libhipac.so"
-            if path.is_file():
-                return path
-    return None
+    """The proved library that ./build has made of the repository's files as they stand."""
+    if not list(_ABOVE.glob(".built/hipac_c-proved-*")):
+        return None
+    words = [str(_ABOVE / "tools" / "key"), str(_ABOVE), "hipac_c", "src", "specs", "proofs"]
+    key = subprocess.run(words, stdin=subprocess.DEVNULL, stdout=subprocess.PIPE, text=True, check=True).stdout.strip()
+    return _ABOVE / ".built" / f"hipac_c-proved-{key}" / "libhipac.so"
 
 
 def _places() -> Iterator[Union[str, "os.PathLike[str]", None]]:
@@ -74,8 +67,8 @@ def find_library(path: Union[str, "os.PathLike[str]", None] = None) -> str:
     for place in _places():
         if place is not None and (not isinstance(place, Path) or place.is_file()):
             return os.fspath(place)
-    raise LibraryMissing("there is no libhipac: ./build hipac_c makes it, tools/unproved_library.py makes one without "
-                         "proofs, and library= or $HIPAC_LIBRARY says where it is; by=\"program\" needs none")
+    raise LibraryMissing("there is no libhipac: ./build hipac_c makes it, and library= or $HIPAC_LIBRARY says where it "
+                         "is; by=\"program\" needs none")
 
 
 @functools.lru_cache(maxsize=None)
