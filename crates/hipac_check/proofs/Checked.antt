@@ -4,6 +4,7 @@ use Rattle.std.specs.Prelude.{IfSome}
 use Rattle.hp_model.specs.Report.{Bytes}
 use Rattle.hp_model.specs.Kinds.{Declared}
 use Rattle.hp_report.specs.Device.{Begins}
+use Rattle.hp_analysis.proofs.Signatures.{keeps_same}
 use Rattle.hipac_check.specs.Outputs.{check_output, IsChecked}
 use Rattle.hipac_check.proofs.Longest.{output_of_take}
 
@@ -22,20 +23,17 @@ begins_before : (w : Option (List ℕ)) (text : List ℕ) → Begins w w text
 begins_before None text = ([], text, refl, tt)
 begins_before (Some xs) text = ([], text, refl, sym (append-nil xs))
 
-no_declared : Declared
-no_declared = record { signatures = []; fired = [] }
+pub checked_before : (w : Option (List ℕ)) (given : Declared) (is_text : Bool) (input : List ℕ) → IsChecked (λ text. Begins w w text) given is_text input
+checked_before w given is_text input = (given, keeps_same given, begins_before w (check_output is_text input given))
 
-pub checked_before : (w : Option (List ℕ)) (is_text : Bool) (input : List ℕ) → IsChecked (λ text. Begins w w text) is_text input
-checked_before w is_text input = (no_declared, begins_before w (check_output is_text input no_declared))
-
-pub checked_before_all : (w o : Option (List ℕ)) (is_text : Bool) → IfSome o (λ input. IsChecked (λ text. Begins w w text) is_text input)
-checked_before_all w None is_text = tt
-checked_before_all w (Some input) is_text = checked_before w is_text input
+pub checked_before_all : (w o : Option (List ℕ)) (given : Declared) (is_text : Bool) → IfSome o (λ input. IsChecked (λ text. Begins w w text) given is_text input)
+checked_before_all w None given is_text = tt
+checked_before_all w (Some input) given is_text = checked_before w given is_text input
 
 -- the bytes that are read are enough
-pub checked_all : (demand : Bytes → Type 0) (is_text : Bool) (read : List ℕ) (o : Option (List ℕ)) → IfSome o (λ all. read ≡ take 1048577 all)
-    → IsChecked demand is_text read → IfSome o (λ all. IsChecked demand is_text all)
-checked_all demand is_text read None is h = tt
-checked_all demand is_text read (Some all) is h =
+pub checked_all : (demand : Bytes → Type 0) (given : Declared) (is_text : Bool) (read : List ℕ) (o : Option (List ℕ)) → IfSome o (λ all. read ≡ take 1048577 all)
+    → IsChecked demand given is_text read → IfSome o (λ all. IsChecked demand given is_text all)
+checked_all demand given is_text read None is h = tt
+checked_all demand given is_text read (Some all) is h =
     let d = h.0 in
-    (d, subst demand (output_of_take is_text all d) (subst (λ bytes. demand (check_output is_text bytes d)) is h.1))
+    (d, h.1, subst demand (output_of_take is_text all d) (subst (λ bytes. demand (check_output is_text bytes d)) is h.2))

@@ -3,4 +3,3 @@ pub mod Written
 pub mod Longest
 pub mod RuleLines
 pub mod Checked
-pub mod FewWords

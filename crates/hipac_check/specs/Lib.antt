@@ -1,3 +1,1 @@
-pub mod Ends
-pub mod Outputs
-pub mod Words
+pub mod Asked

@@ -8,7 +8,7 @@ ghost use Rattle.hp_rule.specs.Libraries as libraries;
 ghost use Rattle.hp_rule.specs.Mapped.{unit};
 ghost use Rattle.hp_script.specs.Mapped.{script as script_of_model};
 ghost use Rattle.hp_rule.specs.Statements.{rule};
-ghost use Rattle.hp_analysis.specs.Declarations.{declared};
+ghost use Rattle.hp_analysis.specs.Declarations.{declared, Keeps};
 ghost use Rattle.hp_analysis.specs.Findings.{finds_nothing};
 ghost use Rattle.hp_analysis.specs.FoundKinds.{kind_findings};
 ghost use Rattle.hp_analysis.specs.Depths.{library_depth};
@@ -20,9 +20,10 @@ ghost use Rattle.hp_analysis.specs.Checking.{findings_text, verdicts_of, have_no
 ghost use Rattle.hipac_check.specs.Ends.{status_of};
 ghost use Rattle.hipac_check.specs.Outputs.{check_output, IsChecked};
 
+use crate::asked::Asked;
 use crate::lines::{put_chain, put_idles, put_kind_lines, put_openings};
 use crate::verdicts::{put_depth, put_guards, put_kinds};
-use hp_analysis::{Declaration, Graph, KindFinding, have_no_opening, infer, kind_findings};
+use hp_analysis::{Declaration, Graph, KindFinding, have_no_opening, infer_with, kind_findings};
 use hp_notation::{Unread, read_script};
 use hp_report::{Fault, ReadFault, Sink, Source, Status, read_up_to, write_text};
 use hp_rule::{Library, Rule, Unit};
@@ -36,15 +37,15 @@ fn most_read() -> usize
     1_048_577
 }
 
-/// Reads a script up to the reader's end, and writes the findings on it, or the line that refuses it. The script is a
-/// text in the notation if `is_text` says so, and else JSON.
+/// Reads a script up to the reader's end, and writes the findings on it, or the line that refuses it. What is asked says
+/// whether the script is a text or JSON, and which signatures of signals are given.
 ///
 /// The reader and the writer must not have failed before. After `Fault::Read` and `Fault::NoMemory` nothing was
 /// written; after any fault what was written is a prefix of the text. No call of a device is repeated.
 #[tactic(auto, using(crate::proofs::Longest::output_of_take, crate::proofs::Longest::status_of_take))]
 pub fn check<R: Source, W: Sink>(
     alloc: Global,
-    is_text: bool,
+    asked: Asked,
     reader: &mut R,
     writer: &mut W,
 ) -> Result<Status, Fault>
@@ -53,13 +54,15 @@ pub fn check<R: Source, W: Sink>(
 
     // On `Ok` it has written the definition's text for the bytes up to the reader's end, and nothing else.
     ensures output { OnOk result (IfSome (R.remaining reader.old) (λ input.
-        IsChecked (λ text. Appends (W.contents writer.old) (W.contents writer.new) text) is_text input)) }
+        IsChecked (λ text. Appends (W.contents writer.old) (W.contents writer.new) text)
+        (declared asked.signals) asked.is_text input)) }
     ensures status { IfOk result (λ status. IfSome (R.remaining reader.old) (λ input.
-        status ≡ status_of is_text input)) }
+        status ≡ status_of asked.is_text input)) }
 
     // However it ends, what was written is a prefix of that text.
     ensures begins { IfSome (R.remaining reader.old) (λ input.
-        IsChecked (λ text. Begins (W.contents writer.old) (W.contents writer.new) text) is_text input) }
+        IsChecked (λ text. Begins (W.contents writer.old) (W.contents writer.new) text)
+        (declared asked.signals) asked.is_text input) }
 
     // It returns a fault of a device exactly if a call has failed; after a failed read nothing was written.
     ensures read { result ≡ Err Fault.Read ↔ (R.has_failed reader.new ≡ true) }
@@ -70,7 +73,7 @@ pub fn check<R: Source, W: Sink>(
     ensures memory { result ≡ Err Fault.NoMemory → writer.new ≡ writer.old }
 {
     let input = read_input(alloc, reader)?;
-    let status = respond(alloc, is_text, input.as_slice(), writer)?;
+    let status = respond(alloc, asked, input.as_slice(), writer)?;
     Ok(status)
 }
 
@@ -88,19 +91,20 @@ fn read_input<R: Source>(alloc: Global, reader: &mut R) -> Result<Vec<u8>, ReadF
 struct Answer {
     text: String,
     status: Status,
-    // What is declared of the script's signals; of nothing if the script is refused.
+    // What is declared of the script's signals; what was given if the script is refused.
     declaration: Declaration,
 }
 
 /// What is written for a script.
 ///
 /// An error means that memory ran out.
-fn reported(alloc: Global, script: &Script) -> Result<Answer, AllocError>
+fn reported(alloc: Global, script: &Script, signals: Declaration) -> Result<Answer, AllocError>
+    ensures keeps { IfOk result (λ answer. Keeps (declared signals) (declared answer.declaration)) }
     ensures text { IfOk result (λ answer. string_bytes answer.text
         ≡ findings_text (script_of_model script.now) (declared answer.declaration)) }
     ensures status { IfOk result (λ answer. answer.status ≡ Status.Reported) }
 {
-    let declaration = infer(alloc, &script.library, &script.items)?.declaration;
+    let declaration = infer_with(alloc, &script.library, &script.items, signals)?.declaration;
     let text = findings(alloc, &script.library, &script.items, &declaration)?;
     Ok(Answer {
         text,
@@ -112,17 +116,18 @@ fn reported(alloc: Global, script: &Script) -> Result<Answer, AllocError>
 /// The text that the definitions give for a script's bytes.
 ///
 /// An error means that memory ran out.
-fn answer_to(alloc: Global, is_text: bool, input: &[u8]) -> Result<Answer, AllocError>
+fn answer_to(alloc: Global, asked: Asked, input: &[u8]) -> Result<Answer, AllocError>
+    ensures keeps { IfOk result (λ answer. Keeps (declared asked.signals) (declared answer.declaration)) }
     ensures text { IfOk result (λ answer. string_bytes answer.text
-        ≡ check_output is_text input.now (declared answer.declaration)) }
-    ensures status { IfOk result (λ answer. answer.status ≡ status_of is_text input.now) }
+        ≡ check_output asked.is_text input.now (declared answer.declaration)) }
+    ensures status { IfOk result (λ answer. answer.status ≡ status_of asked.is_text input.now) }
 {
-    match read_script(alloc, input, is_text) {
-        Ok(script) => reported(alloc, &script),
+    match read_script(alloc, input, asked.is_text) {
+        Ok(script) => reported(alloc, &script, asked.signals),
         Err(Unread::Refused(text)) => Ok(Answer {
             text,
             status: Status::Refused,
-            declaration: Declaration::new(alloc),
+            declaration: asked.signals,
         }),
         Err(Unread::Memory) => Err(AllocError),
     }
@@ -131,20 +136,22 @@ fn answer_to(alloc: Global, is_text: bool, input: &[u8]) -> Result<Answer, Alloc
 /// Writes the text that the definitions give for a script's bytes.
 fn respond<W: Sink>(
     alloc: Global,
-    is_text: bool,
+    asked: Asked,
     input: &[u8],
     writer: &mut W,
 ) -> Result<Status, Fault>
     requires { W.has_failed writer.old ≡ false }
     ensures output { OnOk result (
-        IsChecked (λ text. Appends (W.contents writer.old) (W.contents writer.new) text) is_text input.now) }
-    ensures status { IfOk result (λ status. status ≡ status_of is_text input.now) }
-    ensures begins { IsChecked (λ text. Begins (W.contents writer.old) (W.contents writer.new) text) is_text input.now }
+        IsChecked (λ text. Appends (W.contents writer.old) (W.contents writer.new) text)
+        (declared asked.signals) asked.is_text input.now) }
+    ensures status { IfOk result (λ status. status ≡ status_of asked.is_text input.now) }
+    ensures begins { IsChecked (λ text. Begins (W.contents writer.old) (W.contents writer.new) text)
+        (declared asked.signals) asked.is_text input.now }
     ensures read { result ≢ Err Fault.Read }
     ensures write { result ≡ Err Fault.Write ↔ (W.has_failed writer.new ≡ true) }
     ensures memory { result ≡ Err Fault.NoMemory → writer.new ≡ writer.old }
 {
-    let answer = answer_to(alloc, is_text, input)?;
+    let answer = answer_to(alloc, asked, input)?;
     write_text(writer, answer.text.as_bytes())?;
     Ok(answer.status)
 }
