@@ -37,8 +37,8 @@ fn most_read() -> usize
     1_048_577
 }
 
-/// Reads a script up to the reader's end, and writes the findings on it, or the line that refuses it. What is asked says
-/// whether the script is a text or JSON, and which signatures of signals are given.
+/// Reads a script up to the reader's end, and writes the findings on it, or the line that refuses it. What is asked
+/// says whether the script is a text or JSON, and which signatures of signals are given.
 ///
 /// The reader and the writer must not have failed before. After `Fault::Read` and `Fault::NoMemory` nothing was
 /// written; after any fault what was written is a prefix of the text. No call of a device is repeated.

@@ -30,8 +30,8 @@ pub enum Stop {
 /// How the program ends.
 #[derive(Debug, PartialEq, Eq, Drop)]
 pub struct Ended {
-    /// The exit status: 0 after findings, 2 after a refusal, 3 if the words or the file of signals were refused, 4 after
-    /// a fault.
+    /// The exit status: 0 after findings, 2 after a refusal, 3 if the words or their file of signals were refused, 4
+    /// after a fault.
     pub code: u8,
     /// What is said on standard error, if anything.
     pub stop: Option<Stop>,
@@ -57,9 +57,11 @@ pub fn program<R: Source, W: Sink>(
     ensures code { IfOk asked (λ a. result.code ≢ 4 → IfSome (R.remaining reader.old) (λ input.
         result.code ≡ code_of (Ok (status_of a.is_text input)))) }
     ensures output { IfOk asked (λ a. result.code ≢ 4 → IfSome (R.remaining reader.old) (λ input.
-        IsChecked (λ text. Appends (W.contents writer.old) (W.contents writer.new) text) (declared a.signals) a.is_text input)) }
+        IsChecked (λ text. Appends (W.contents writer.old) (W.contents writer.new) text)
+        (declared a.signals) a.is_text input)) }
     ensures begins { IfOk asked (λ a. IfSome (R.remaining reader.old) (λ input.
-        IsChecked (λ text. Begins (W.contents writer.old) (W.contents writer.new) text) (declared a.signals) a.is_text input)) }
+        IsChecked (λ text. Begins (W.contents writer.old) (W.contents writer.new) text)
+        (declared a.signals) a.is_text input)) }
     ensures read { R.has_failed reader.new ≡ true → result.code ≡ 4 }
     ensures write { W.has_failed writer.new ≡ true → result.code ≡ 4 }
 {

@@ -11,14 +11,17 @@ returns-in_err-answer-clause-begins g c = checked_before (g.W.Sink.contents c.ar
 pub returns-in_err-write_text-clause-begins : goal.returns-in_err-write_text-clause-begins
 returns-in_err-write_text-clause-begins g c =
     let text = c.as_bytes.ensures.value ∙ c.in_ok-answer.ensures.text in
-    (declared c.in_ok-answer.answer.declaration, c.in_ok-answer.ensures.keeps, subst (λ (b : List ℕ). Begins (g.W.Sink.contents c.args.writer.now) (g.W.Sink.contents c.write_text.new.writer) b) text c.write_text.ensures.begins)
+    (declared c.in_ok-answer.answer.declaration, c.in_ok-answer.ensures.keeps,
+    subst (λ (b : List ℕ). Begins (g.W.Sink.contents c.args.writer.now) (g.W.Sink.contents c.write_text.new.writer) b) text c.write_text.ensures.begins)
 
 pub returns-clause-begins : goal.returns-clause-begins
 returns-clause-begins g c =
     let text = c.as_bytes.ensures.value ∙ c.in_ok-answer.ensures.text in
-    (declared c.in_ok-answer.answer.declaration, c.in_ok-answer.ensures.keeps, subst (λ (b : List ℕ). Begins (g.W.Sink.contents c.args.writer.now) (g.W.Sink.contents c.write_text.new.writer) b) text c.write_text.ensures.begins)
+    (declared c.in_ok-answer.answer.declaration, c.in_ok-answer.ensures.keeps,
+    subst (λ (b : List ℕ). Begins (g.W.Sink.contents c.args.writer.now) (g.W.Sink.contents c.write_text.new.writer) b) text c.write_text.ensures.begins)
 
 pub returns-clause-output : goal.returns-clause-output
 returns-clause-output g c =
     let text = c.as_bytes.ensures.value ∙ c.in_ok-answer.ensures.text in
-    (declared c.in_ok-answer.answer.declaration, c.in_ok-answer.ensures.keeps, subst (λ (b : List ℕ). Appends (g.W.Sink.contents c.args.writer.now) (g.W.Sink.contents c.write_text.new.writer) b) text c.in_ok-write_text.ensures.ok)
+    (declared c.in_ok-answer.answer.declaration, c.in_ok-answer.ensures.keeps,
+    subst (λ (b : List ℕ). Appends (g.W.Sink.contents c.args.writer.now) (g.W.Sink.contents c.write_text.new.writer) b) text c.in_ok-write_text.ensures.ok)
