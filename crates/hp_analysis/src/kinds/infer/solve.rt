@@ -241,11 +241,15 @@ fn declare_new(
 ) -> Result<(), AllocError>
     ensures { OnOk result (Keeps (declared declaration.old) (declared declaration.new)) }
 {
-    let name = name.clone()?;
-    if sorts.is_empty() || declaration.is_declared(name.as_str()) {
+    if sorts.is_empty() {
         return Ok(());
     }
-    declaration.declare(name, sorts)
+    let signal = name.clone()?;
+    if declaration.is_declared(signal.as_str()) {
+        return Ok(());
+    }
+    declaration.declare(signal, sorts)?;
+    Ok(())
 }
 
 /// The declaration that follows from what was gathered and from what is given.
