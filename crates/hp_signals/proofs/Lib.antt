@@ -1,2 +1,2 @@
 pub mod Listing
-pub mod Reading
+pub mod InOrder

@@ -1,5 +1,5 @@
 -- A list of signals with one more.
-use Rattle.std.proofs.Common.{◌≡◌, refl, sym, ap, ap₂, subst, ◌∙◌, ℕ, Bool, true, false, cond, List, [], ◌∷◌, ◌++◌, Option, Some, None, bytes_eq, if◌then◌else◌}
+use Rattle.std.proofs.Common.{◌≡◌, refl, sym, ap, subst, ◌∙◌, ℕ, Bool, true, false, cond, List, [], ◌∷◌, ◌++◌, Option, Some, None, bytes_eq, if◌then◌else◌}
 use Rattle.std.specs.Prelude.{is_some}
 use Rattle.std.specs.Map.{lookup}
 use Rattle.std.proofs.lemmas.Bool.Decides.{same_from_decides}
@@ -31,8 +31,8 @@ mirrored a b =
 
 nothing : {X : Type 0} (o later : Option X) → is_some o ≡ false → first_of o later ≡ later
 unfolding first_of
-nothing None later no = refl
-nothing (Some x) later no = cc
+nothing None later absent = refl
+nothing (Some x) later absent = cc
 
 no_more : {X : Type 0} (o : Option X) → first_of o None ≡ o
 unfolding first_of

@@ -1,5 +1,5 @@
 -- A file of signals: a JSON list of `[name, sorts]`, as a script lists a class and its fields.
-use Rattle.std.specs.Prelude.{ℕ, nat_lt, Bool, List, [], ◌∷◌, length, codes, Option, Some, None, is_some, option_and_then, Ok, Err, bytes_eq, if◌then◌else◌}
+use Rattle.std.specs.Prelude.{ℕ, nat_lt, Bool, List, [], ◌∷◌, length, codes, Option, is_some, option_and_then, Ok, Err, bytes_eq, if◌then◌else◌}
 use Rattle.std.specs.Map.{lookup}
 use Rattle.serde_json.specs.Data.{Data}
 use Rattle.serde_json.specs.Find.{as_str}

@@ -109,8 +109,10 @@ fn signatures_in(alloc: Global, value: &Value) -> Result<Declaration, DecodeErro
     let values = list_at(alloc, &Place::Root, value)?;
     let mut declaration = Declaration::new(alloc);
     for (i, value) in values.iter().enumerate() {
-        let next = signature_at(alloc, &Place::Root.item(i), &declaration, value)?;
-        declaration.declare(next.name, next.sorts)?;
+        match signature_at(alloc, &Place::Root.item(i), &declaration, value) {
+            Ok(next) => declaration.declare(next.name, next.sorts)?,
+            Err(error) => return Err(error),
+        }
     }
     Ok(declaration)
 }

@@ -4,7 +4,7 @@ use Rattle.hp_model.specs.Parts.{read_from}
 use Rattle.hp_analysis.specs.Declarations.{declared}
 use Rattle.hp_signals.specs.Signals.{Signature}
 use Rattle.hp_signals.specs.Mapped.{Lists}
-use Rattle.hp_signals.proofs.Reading.{read_next}
+use Rattle.hp_signals.proofs.InOrder.{read_next}
 use Rattle.hp_signals.proofs.reading.signatures_in.Given as goal
 
 -- what was read so far is declared

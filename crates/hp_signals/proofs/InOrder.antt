@@ -1,19 +1,23 @@
 -- Signals that are read one after another, each with those before it.
-use Rattle.std.proofs.Common.{arith, ◌≡◌, ℕ, suc, ◌+◌, ◌<◌, List, [], ◌∷◌, ◌++◌, map, drop, get_or, Result, Ok, Err, refl, ap, sym, ◌∙◌, subst}
+use Rattle.std.proofs.Common.{arith, length, ◌≡◌, ℕ, suc, ◌+◌, ◌<◌, List, [], ◌∷◌, ◌++◌, map, drop, get_or, Ok, Err, refl, ap, sym, ◌∙◌}
 use Rattle.std.proofs.lemmas.List.{drop_more}
 use mathlib.Core.Path.{fun_ext}
 use Rattle.std.specs.Prelude.{is_some}
 use Rattle.serde_json.specs.Data.{Data}
 use Rattle.serde_json.specs.View.{view}
 use Rattle.serde_json.specs.declared.value.Value.{Value}
-use Rattle.hp_model.specs.Values.{Name}
+use Rattle.hp_model.specs.Values.{Name, ◌>>=◌}
 use Rattle.hp_model.specs.Kinds.{Declared}
 use Rattle.hp_model.specs.Refusals.{Path, item_at, Decoded}
-use Rattle.hp_model.specs.Parts.{read_from}
+use Rattle.hp_model.specs.Parts.{list_at, read_each, read_from}
+use Rattle.hp_rule.specs.Places.{steps, steps_step}
+use Rattle.hp_rule.specs.declared.place.Place.TheVariants.{Root, rolls-Root}
+use Rattle.hp_rule.specs.declared.place.Place.TheOpen.{Place-F}
+use Rattle.hp_rule.specs.declared.place.Place.TheFolds.{fold-roll-Place}
 use Rattle.hp_script.specs.Mapped.{Fails, refusal}
 use Rattle.hp_script.specs.declared.refusal.DecodeError.{DecodeError}
 use Rattle.hp_script.specs.declared.refusal.DecodeError.TheVariants.{Refused, Memory}
-use Rattle.hp_signals.specs.Signals.{Signature, signature_at, has_signal}
+use Rattle.hp_signals.specs.Signals.{Signature, signature_at, signatures_at, has_signal}
 use Rattle.hp_signals.specs.Mapped.{is_in, Lists}
 
 -- how a file's next signal is read
@@ -50,3 +54,10 @@ stops before (Refused r) i y ys all below there here so_far = sym (at_next befor
   where
     step : (zs : List Data) → read_from read_next [] before i (view y ∷ zs) ≡ Err (refusal r)
     step zs = rw here refl
+
+pub root_is : steps Root ≡ []
+root_is = ap steps (sym rolls-Root) ∙ fold-roll-Place Path steps_step Place-F.Root
+
+-- the signals of a list
+pub of_list : (d : Data) (ds : List Data) → list_at (steps Root) d ≡ Ok ds → signatures_at d ≡ read_from read_next [] [] 0 ds
+of_list d ds is = ap (λ (r : Decoded (List Data)). r >>= λ es. read_each read_next [] es) (ap (λ (p : Path). list_at p d) (sym root_is) ∙ is)
