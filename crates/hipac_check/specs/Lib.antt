@@ -1,1 +1,4 @@
 pub mod Asked
+pub mod Ends
+pub mod Outputs
+pub mod Words
