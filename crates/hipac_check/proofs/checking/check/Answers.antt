@@ -1,4 +1,5 @@
 use Rattle.std.proofs.Common.{subst, List, ℕ}
+use Rattle.std.specs.Io.KnownBytes.{Appends}
 use Rattle.hp_report.specs.Device.{Begins}
 use Rattle.hp_analysis.specs.Declarations.{declared}
 use Rattle.hipac_check.specs.Outputs.{IsChecked}
@@ -13,3 +14,9 @@ returns-clause-begins g c =
     let begins = λ (text : List ℕ). Begins (g.W.Sink.contents c.args.writer.now) (g.W.Sink.contents c.respond.new.writer) text in
     checked_all begins (declared c.args.asked.signals) c.args.asked.is_text c.in_ok-input.input.items (g.R.Source.remaining c.args.reader.now) c.in_ok-input.ensures.bytes
     (subst (λ (bytes : List ℕ). IsChecked begins (declared c.args.asked.signals) c.args.asked.is_text bytes) c.as_slice.ensures.value c.respond.ensures.begins)
+
+pub returns-clause-output : goal.returns-clause-output
+returns-clause-output g c =
+    let appends = λ (text : List ℕ). Appends (g.W.Sink.contents c.args.writer.now) (g.W.Sink.contents c.respond.new.writer) text in
+    checked_all appends (declared c.args.asked.signals) c.args.asked.is_text c.in_ok-input.input.items (g.R.Source.remaining c.args.reader.now) c.in_ok-input.ensures.bytes
+    (subst (λ (bytes : List ℕ). IsChecked appends (declared c.args.asked.signals) c.args.asked.is_text bytes) c.as_slice.ensures.value c.in_ok-status.ensures.output)
