@@ -76,7 +76,7 @@ pub fn parse_live_words(alloc: Global, words: &[String]) -> Result<LiveOptions, 
     match matches_of(alloc, words, true) {
         Ok(matches) => {
             let options = options_in(&matches)?;
-            let script = script_in(alloc, &matches)?;
+            let script = value_in(alloc, &matches, "script")?;
             Ok(LiveOptions { options, script })
         }
         Err(error) => Err(fault_by(&error)),
@@ -84,7 +84,7 @@ pub fn parse_live_words(alloc: Global, words: &[String]) -> Result<LiveOptions, 
 }
 
 /// The words that the process was started with.
-fn own_words<R: Env + AllocGlobal>(rt: &R) -> Result<Vec<String>, WordFault>
+pub fn own_words<R: Env + AllocGlobal>(rt: &R) -> Result<Vec<String>, WordFault>
     ensures { IfErr result (λ fault. fault ≡ WordFault.NoMemory) }
 {
     let Ok(words) = env::args(rt) else {
@@ -125,7 +125,7 @@ pub fn word_code(fault: WordFault) -> u8
 }
 
 /// An argument `--NAME` without a value.
-fn flag(alloc: Global, name: &str) -> Arg<'_>
+pub(crate) fn flag(alloc: Global, name: &str) -> Arg<'_>
     ensures rule { rule_of result ≡ flag_rule name.entry.now }
     ensures local { result.global ≡ false }
 {
@@ -173,7 +173,7 @@ fn matches_of<'a>(
 }
 
 /// Why `clap` gave no matches.
-fn fault_by(error: &Error) -> WordFault
+pub(crate) fn fault_by(error: &Error) -> WordFault
     ensures { result ≡ WordFault.Refused → kind_of error.now ≢ ErrorKind.OutOfMemory }
 {
     match error.kind() {
@@ -209,19 +209,23 @@ fn workers_in(matches: &ArgMatches<'_>) -> u8
 }
 
 /// Whether the matches have a flag.
-fn flag_in(matches: &ArgMatches<'_>, name: &str) -> bool
+pub(crate) fn flag_in(matches: &ArgMatches<'_>, name: &str) -> bool
     ensures { result ≡ flag_in (one_of name.now (rows_of (found_of matches.entry.now))) }
 {
     matches.get_one::<bool>(name).unwrap_or(false)
 }
 
-/// The file's name in the matches, if there is one.
-fn script_in(alloc: Global, matches: &ArgMatches<'_>) -> Result<Option<String>, AllocError>
-    ensures { IfOk result (λ name.
-        option_map string_bytes name ≡ first_of (codes "script") (rows_of (found_of matches.entry.now))) }
+/// The value of the argument `--NAME` in the matches, if there is one.
+pub(crate) fn value_in(
+    alloc: Global,
+    matches: &ArgMatches<'_>,
+    name: &str,
+) -> Result<Option<String>, AllocError>
+    ensures { IfOk result (λ value.
+        option_map string_bytes value ≡ first_of name.now (rows_of (found_of matches.entry.now))) }
 {
-    match matches.get_str("script") {
-        Some(name) => Ok(Some(String::from_str(alloc, name)?)),
+    match matches.get_str(name) {
+        Some(value) => Ok(Some(String::from_str(alloc, value)?)),
         None => Ok(None),
     }
 }
