@@ -7,7 +7,10 @@ Of each script, of version 2 or 4, and every third one made so that each value i
 
 - The verdicts on depth and guards and all findings but those of kinds are those that this script finds by itself.
   Those name something in the script, each something else, and a script that is made so has none.
-- With --text the script's canonical text has the same findings.
+- With --text the script's canonical text has the same findings, at the places in the text that the tools' reader finds.
+- By a file of random signatures (--signals) the findings are right in the same way, and all that follows holds too. A
+  unit that gives a signal of the file other kinds, or too few arguments, has a line. If the file names all signals, the
+  lines of rules are the same without the units. By the signatures that a script keeps to it has no line.
 - What hipac_check promises holds in the run, by its report with trees: after `kinds ok` nothing ends with A3 or A6, not
   even a condition; after a known depth nothing with A7; a guard that isn't closed and has no line `open` has no faulty
   condition, and no arithmetic ends its action; no rule fires that is never installed or never reached.
@@ -15,6 +18,8 @@ Of each script, of version 2 or 4, and every third one made so that each value i
 The lines before the last say how many of the scripts that met no such cause have the verdict, of each sort of scripts.
 No document promises that a verdict is given, so a script fails only by a wrong finding or a broken promise. But of the
 scripts as people write them so many must have the verdict as LEAST_GIVEN says.
+
+Before all that, files that are refused, and words, get exactly the line on standard error that they are to get.
 
 With --show a script is written out, and not run. HIPAC and HIPAC_CHECK name the programs; the defaults are those that
 ./hipac and ./hipac-check start. The seeds are fixed: script n is the same on each machine. The last line is 'N passed,
@@ -25,19 +30,24 @@ import argparse
 import concurrent.futures
 import json
 import os
+import random
 import re
 import sys
+import tempfile
 
 from harness import TOP, by_pipe, command_of
 
 sys.path.insert(0, os.path.join(TOP, "tools"))
 
 from hipac_tools import rulebase  # noqa: E402 (they lie in tools/)
+from hipac_tools.notation.reader import decoded, read_bytes  # noqa: E402
 from hipac_tools.notation.writer import script_text  # noqa: E402
+from hipac_tools.positions import find, line_and_column  # noqa: E402
+from hipac_tools.proved import unit_paths  # noqa: E402
 from tests.made_scripts import ScriptMaker  # noqa: E402
 from tests.made_version4 import Version4Maker  # noqa: E402
 
-from kinded_scripts import KindedMaker  # noqa: E402
+from kinded_scripts import SIGNATURES, KindedMaker  # noqa: E402
 
 DETACHED = ("separate", "dependent", "exclusive")
 COMMIT = ("commit",)
@@ -227,6 +237,11 @@ class Base:
             clock = item[1]
         return found
 
+    def raised(self, signals):
+        """The rules that a transaction may trigger which gives these signals, if there are any."""
+        occurrences = [COMMIT, *(("signal", name) for name in signals)] if signals else []
+        return set().union(*map(self.signal, occurrences))
+
     def within(self, most):
         """The rules that begin no chain of more than `most` firings."""
         table = set()
@@ -297,8 +312,8 @@ def closed(rules, after):
 
 # ---- findings
 
-def findings(script, is_kinded):
-    """What hipac_check has to write of an accepted script, without the lines on kinds."""
+def findings(script, is_kinded, signals=()):
+    """What hipac_check has to write of an accepted script, without the lines on kinds, where a file names signals."""
     base = Base(script)
     among = Base(script, base.installed())
     begun = among.begun()
@@ -306,7 +321,7 @@ def findings(script, is_kinded):
     here = f"depth {own} of {base.limit} here" if own else "depth unknown"
     openings = [opening(rule) for rule in base.rules]
     names = [rule[0] for rule in base.rules]
-    reached = closed(begun, among.after)
+    reached = closed(begun | among.raised(signals), among.after)
     return [
         f"depth {known} of {base.limit}" if known else here,
         "guards closed" if is_kinded and not any(openings) else "guards unknown",
@@ -315,6 +330,25 @@ def findings(script, is_kinded):
         *(f"{'never' if n in among.present else 'uninstalled'} /rules/{n} {name}" for n, name in enumerate(names)
           if n not in among.present or n not in reached),
     ]
+
+
+def in_text(script, text, found):
+    """The lines of findings on a script as those on its text, with lines and columns in place of paths."""
+    root, characters, units = read_bytes(text), decoded(text), list(unit_paths(script))
+
+    def place(path):
+        line, column = line_and_column(characters, find(root, path).node.start)
+        return f"{line}:{column}"
+
+    for line in found:
+        word, *others = line.split(" ")
+        if word == "kind" and others[0] == "unit":
+            others[1:3] = [others[1], place(units[int(others[1]) - 1] + others[2])]
+        elif word == "by":
+            others = list(map(place, others))
+        elif others[0].startswith("/"):
+            others[0] = place(others[0])
+        yield " ".join((word, *others))
 
 
 # ---- runs
@@ -370,8 +404,9 @@ def check(commands, seed):
     given = json.dumps(script).encode()
     status, wrote, _ = by_pipe(commands["hipac_check"], given)
     text = script_text(rulebase.read(json.dumps(script))).encode()
-    if by_pipe([*commands["hipac_check"], "--text"], text)[1] != wrote:
-        return "the script's text has other findings", {}
+    found_in_text = by_pipe([*commands["hipac_check"], "--text"], text)[1].decode().splitlines()
+    if found_in_text != list(in_text(script, text, wrote.decode().splitlines())):
+        return f"the script's text has the findings {found_in_text}", {}
     _, report, _ = by_pipe([*commands["hipac"], "--tree"], given)
     found, lines = wrote.decode().splitlines(), report.decode().splitlines()
     if status != 0 or len(found) < 3 or found[0] not in ("kinds ok", "kinds unknown"):
@@ -382,11 +417,128 @@ def check(commands, seed):
     wanted = findings(script, found[0] == "kinds ok")
     if [line for line in found[1:] if line not in kinds] != wanted:
         return f"it wrote {found}, and by the definitions {wanted}", {}
+    wrong = [*broken(script, found, lines), *wrong_by_signals(commands, seed, script, lines)]
     met, failed = failures(script, lines)
     given = {name: found[place].split()[1] != "unknown" for place, name in enumerate(VERDICTS)}
     none = {name: not met.intersection(causes) for name, causes in VERDICTS.items()}
     none["guards"] = not failed and any(may_veto(rule[5]) for rule in script["rules"])
-    return "; ".join(broken(script, found, lines)), {name: given[name] for name in VERDICTS if none[name]}
+    return "; ".join(wrong), {name: given[name] for name in VERDICTS if none[name]}
+
+
+# ---- signals of a file
+
+# The words for an argument. A file has at most this many arguments of a signal, most of the time.
+SORTS = ("int", "bool", "text", "any")
+FEW = 3
+
+
+def signals_in(value):
+    """The names of the signals in a script's JSON."""
+    if not isinstance(value, list):
+        return set()
+    own = {value[1]} if len(value) > 1 and value[0] == "signal" and isinstance(value[1], str) else set()
+    return own.union(*map(signals_in, value))
+
+
+def by_file(commands, script, signatures):
+    """The lines that are written of a script by these signatures."""
+    with tempfile.NamedTemporaryFile("w", suffix=".json") as file:
+        json.dump(signatures, file)
+        file.flush()
+        status, wrote, said = by_pipe([*commands["hipac_check"], "--signals", file.name], json.dumps(script).encode())
+    return wrote.decode().splitlines() if status == 0 else [f"status {status}", said.decode()]
+
+
+def kind_lines(found):
+    return [line for line in found if line.startswith("kind ")]
+
+
+def breaks(body, signatures):
+    """Whether a body gives a signal other kinds than a file says, by its constants, or too few arguments."""
+    for given in body:
+        if given[0] == "signal" and given[1] in signatures:
+            wanted = signatures[given[1]]
+            if len(given[2]) < len(wanted) or any(not fits(e, sort) for sort, e in zip(wanted, given[2])):
+                return True
+        if any(breaks(given[place], signatures) for place in INSIDE.get(given[0], ())):
+            return True
+    return False
+
+
+def fits(e, sort):
+    """Whether an argument may be of this sort: a constant by its kind, and any other expression."""
+    kind = {bool: "bool", int: "int", str: "text"}.get(type(e))
+    return sort == "any" or kind in (None, sort)
+
+
+def wrong_by_signals(commands, seed, script, report):
+    """What is wrong with the findings on a script by the signatures of a file."""
+    chance = random.Random(seed)
+    names = sorted(signals_in([script["rules"], script["items"]]))
+    signatures = {name: [chance.choice(SORTS) for _ in range(chance.randint(0, FEW))] for name in names}
+    found = by_file(commands, script, list(signatures.items()))
+    kinds = kind_lines(found)
+    if bool(kinds) != (found[0] == "kinds unknown") or not all(is_there(script, line) for line in kinds):
+        yield f"by {signatures} {found[:3]}, and the findings of kinds {kinds}"
+        return
+    if [line for line in found[1:] if line not in kinds] != findings(script, found[0] == "kinds ok", names):
+        yield f"by {signatures} it wrote {found}"
+        return
+    yield from (f"by {signatures} {fault}" for fault in broken(script, found, report))
+    for n, body in enumerate(bodies(script), 1):
+        if body and breaks(body, signatures) and not any(line.startswith(f"kind unit {n} ") for line in kinds):
+            yield f"by {signatures} unit {n} has no line"
+    alone = kind_lines(by_file(commands, {**script, "items": []}, list(signatures.items())))
+    if alone != [line for line in kinds if not line.startswith("kind unit ")]:
+        yield f"by {signatures} the rules have other lines without the units: {alone}"
+    if maker_of(seed) is KindedMaker:
+        found = by_file(commands, script, list(SIGNATURES.items()))
+        if found[0] != "kinds ok":
+            yield f"by {SIGNATURES} {found}"
+
+
+# Files of signals that are refused, each with what is said of it.
+REFUSED_FILES = {
+    b"": "signals refused S1",
+    b"[[\"go\", [\"int\"]]": "signals refused S1",
+    b"[[\"g\xff\", []]]": "signals refused S1",
+    b"{\"go\": [\"int\"]}": "signals refused S2 /",
+    b"[\"go\"]": "signals refused S2 /0",
+    b"[[\"go\"]]": "signals refused S2 /0",
+    b"[[\"go\", [], 1]]": "signals refused S2 /0",
+    b"[[7, []]]": "signals refused S2 /0/0",
+    b"[[\"go now\", []]]": "signals refused S2 /0/0",
+    b"[[\"go\", \"int\"]]": "signals refused S2 /0/1",
+    b"[[\"stop\", []], [\"go\", [\"int\", \"number\"]]]": "signals refused S2 /1/1/1",
+    b"[[\"go\", [[\"amount\", \"int\"]]]]": "signals refused S2 /0/1/0",
+    b"[[\"go\", []], [\"stop\", []], [\"go\", [\"what\"]]]": "signals refused S4 /2/0",
+    json.dumps([["go", ["int"] * 33]]).encode(): "signals refused S5 args",
+    b"[]" + b" " * 1_048_575: "signals refused S5 size",
+}
+# Files of signals that are accepted.
+ACCEPTED_FILES = (b"[]", b"[]" + b" " * 1_048_574, json.dumps([["go", ["int"] * 32]]).encode(), b" [ [\"A_1\",[]]]\r\n")
+
+
+def wrong_files(command):
+    """What is wrong with what is said of files of signals, and of words."""
+    empty = json.dumps({"version": 1, "classes": [], "rules": [], "items": []}).encode()
+    with tempfile.TemporaryDirectory() as room:
+        path = os.path.join(room, "signals.json")
+        ends = [(path, content, 3, said) for content, said in REFUSED_FILES.items()]
+        ends += [(path, content, 0, "") for content in ACCEPTED_FILES]
+        ends += [(os.path.join(room, "none"), b"", 3, "the signals' file can't be read"),
+                 (room, b"", 3, "the signals' file can't be read")]
+        for name, content, status, said in ends:
+            with open(path, "wb") as file:
+                file.write(content)
+            done = by_pipe([*command, "--signals", name], empty)
+            if (done[0], done[2].decode().strip(), bool(done[1])) != (status, said, status == 0):
+                yield f"{content[:60]!r} in {name}: {done}"
+        for words in (["--signals"], ["--text", "--text"], ["--signals", path, "--signals", path], ["text"],
+                      ["--tree"], [path], ["--signals", path, "more"]):
+            done = by_pipe([*command, *words], empty)
+            if (done[0], done[1], done[2].decode().strip()) != (3, b"", "command line refused"):
+                yield f"the words {words}: {done}"
 
 
 def is_there(script, line):
@@ -458,13 +610,16 @@ def main():
         print(json.dumps(made(options.show), indent=1))
         return 0
     commands = {name: command_of(name) for name in ("hipac", "hipac_check")}
+    files = list(wrong_files(commands["hipac_check"]))
+    for wrong in files:
+        print(f"FAILED file {wrong}")
     with concurrent.futures.ThreadPoolExecutor(options.jobs) as pool:
         done = list(pool.map(lambda seed: check(commands, seed), range(options.scripts)))
     for seed, (wrong, _) in enumerate(done):
         if wrong:
             print(f"FAILED script {seed}: {wrong}")
-    failed = sum(1 for wrong, _ in done if wrong) + sum(1 for wrong in too_few(done) if wrong)
-    print(f"{len(done) + len(VERDICTS) - failed} passed, {failed} failed")
+    failed = sum(1 for wrong, _ in done if wrong) + sum(1 for wrong in too_few(done) if wrong) + bool(files)
+    print(f"{len(done) + len(VERDICTS) + 1 - failed} passed, {failed} failed")
     return 1 if failed else 0
 
 

@@ -61,6 +61,7 @@ WAYS: dict[str, tuple[list[str], list[str]]] = {
 
 # Each with these words and without them.
 TREES: list[list[str]] = [[], ["--tree"]]
+CHECKED: list[list[str]] = [[], ["--checked"]]
 STATIC: list[list[str]] = [[], ["-static"]]
 
 # So many times fewer lines under valgrind, which takes some 50 times as long.
@@ -235,11 +236,14 @@ def reading_back() -> ModuleType:
 LINES_OF: Callable = reading_back().lines_of
 
 
-def from_python(them: Libraries, first: bytes, later: bytes, tree: bool) -> bytes:
+def from_python(them: Libraries, first: bytes, later: bytes, tree: bool, checked: bool) -> bytes:
     """The answers of a session by the client for Python, written again from its objects."""
-    told: list[str] = []
-    with Base(first, by="library", library=them.shared, tree=tree) as base:
-        told += LINES_OF(Answer(base.opening, count=base.units))
+    try:
+        base = Base(first, by="library", library=them.shared, tree=tree, checked=checked)
+    except Refused as refused:
+        return f"{refusal(refused)}\n".encode()
+    with base:
+        told = list(LINES_OF(Answer(base.opening, count=base.units)))
         for line in later.removesuffix(b"\n").split(b"\n") if later else []:
             base.replay([line])
             answer = base.last_replayed
@@ -248,23 +252,26 @@ def from_python(them: Libraries, first: bytes, later: bytes, tree: bool) -> byte
 
 
 def refusal(refused: Refused) -> str:
-    return " ".join(word for word in ("refused", refused.code, refused.path, refused.limit) if word)
+    """The line that a refusal was read from: in S8 the word comes before the path."""
+    words = (refused.limit, refused.path) if refused.code == "S8" else (refused.path, refused.limit)
+    return " ".join(word for word in ("refused", refused.code, *words) if word)
 
 
 def session(them: Libraries, seed: int) -> None:
     """The same bytes from hipac_live, from the library in C, and from the client for Python."""
     made = SessionMaker(seed)
     first, later = made.input()
-    for tree in TREES:
-        wanted = by_pipe([*them.live, "--workers", "1", *tree], first + later)
+    for words in [[*tree, *checked] for tree in TREES for checked in CHECKED]:
+        wanted = by_pipe([*them.live, "--workers", "1", *words], first + later)
         program = compiled(them, "session.c", "session", [])
-        expect(by_pipe([program, *tree], first + later), wanted, "status, answers and standard error from C")
+        expect(by_pipe([program, *words], first + later), wanted, f"status, answers and standard error from C: {words}")
         if seed % 2:
             with tempfile.NamedTemporaryFile() as file:
                 file.write(json.dumps(made.script, indent=1).encode())
                 file.flush()
-                expect(by_pipe([program, *tree, "--script", file.name], later), wanted, "the same with a file")
-        expect(from_python(them, first.rstrip(b"\r\n"), later, bool(tree)), wanted[1], "answers from Python")
+                expect(by_pipe([program, *words, "--script", file.name], later), wanted, "the same with a file")
+        told = from_python(them, first.rstrip(b"\r\n"), later, "--tree" in words, "--checked" in words)
+        expect(told, wanted[1], f"answers from Python: {words}")
 
 
 def client_tests(them: Libraries) -> None:

@@ -465,6 +465,121 @@ def refused_text(live):
         expect(by_pipe([*live, "--text"], f"{line}\nshow\n".encode()), wanted, f"answers to {line!r}")
 
 
+# A rule base that is checked: a rule reads the first argument of `go` as a number, and `tell` waits for a signal.
+UP_CHECKED = script(
+    [["tx", [["install", "add"], ["create", "acct", 1, [["bal", 3]]]]]],
+    rules=[["add", ["signal", "go"], "immediate", [], "immediate", [["emit", ["+", ["arg", 0, 0], 1]]]]])
+UNKINDED = ["add", ["signal", "go"], "immediate", [], "immediate", [["emit", ["+", ["arg", 0, 0], "a"]]]]
+ENDLESS = ["loop", ["update", "acct"], "immediate", [], "immediate", [["update", "acct", ["id", 0], []]]]
+STATE_CHECKED = "object acct 1 bal=3\nrule add enabled\nok 1\n"
+
+# The lines after UP_CHECKED, and the answers.
+CHECKED_CASES = {
+    "checked, an item": (json.dumps(["tx", [["signal", "go", [1]]]]), "unit 2 committed\nemit 2\nok 2\n"),
+    "checked, S8, an argument": (json.dumps(["tx", [["emit", 1], ["signal", "go", ["a"]]]]),
+                                 "refused S8 kinds /1/1/2/0\n"),
+    "checked, S8, too few arguments": (json.dumps(["tx", [["signal", "go", []]]]), "refused S8 kinds /1/0\n"),
+    "checked, S8, a wrong kind": (json.dumps(["tx", [["if", 1, [], []]]]), "refused S8 kinds /1/0/1\n"),
+    "checked, S8, the first of two": (json.dumps(["tx", [["emit", ["neg", "a"]], ["emit", ["not", 1]]]]),
+                                      "refused S8 kinds /1/0/1/1\n"),
+    "checked, S8, an occurrence": (json.dumps(["tx", [["emit", ["id", 0]]]]), "refused S8 kinds /1/0/1\n"),
+    "checked, S4": (json.dumps(["tx", [["emit", ["neg", "a"]], ["install", "nobody"]]]), "refused S4 /1/1/1\n"),
+    "checked, a move of the clock": ('["clock",9]', "ok 1\n"),
+    "checked, A4": (json.dumps(["tx", [["emit", ["+", 2**63 - 1, 1]]]]), "unit 2 aborted A4\nok 2\n"),
+    "checked, A4 in a rule": (json.dumps(["tx", [["signal", "go", [2**63 - 1]]]]), "unit 2 committed\nok 2\n"),
+}
+
+# First lines that a checked rule base refuses, and what it says.
+REFUSED_CHECKED = {
+    script(rules=[UNKINDED]): "refused S8 kinds /rules/0/5/0/1/2\n",
+    script(rules=[ENDLESS]): "refused S8 depth\n",
+    script(rules=[ENDLESS, UNKINDED]): "refused S8 kinds /rules/1/5/0/1/2\n",
+    script([["tx", []], ["tx", [["emit", ["neg", "a"]]]]]): "refused S8 kinds unit 2 /0/1/1\n",
+    script([["tx", [["install", "nobody"]]]], rules=[UNKINDED]): "refused S4 /items/0/1/0/1\n",
+    "{": "refused S1\n",
+}
+
+
+def checked_case(live, line, answers):
+    """A session of a checked rule base: the line changes nothing if it is refused."""
+    given = f"{UP_CHECKED}\n{line}\n"
+    tail = '["show"]\n' if answers.startswith("refused") else ""
+    wanted = (0, f"unit 1 committed\nok 1\n{answers}{STATE_CHECKED if tail else ''}".encode(), b"")
+    expect(by_pipe([*live, "--checked"], (given + tail).encode()), wanted, "status, answers and standard error")
+
+
+def checked_scripts(live):
+    """A script that a checked rule base refuses, as the first line and in a file, also as the last line of the input.
+    Unchecked it isn't refused."""
+    for line, answer in REFUSED_CHECKED.items():
+        for end in ("", '\n["show"]\n'):
+            expect(by_pipe([*live, "--checked"], f"{line}{end}".encode()), (2, answer.encode(), b""), line)
+        with tempfile.NamedTemporaryFile() as file:
+            file.write(line.encode())
+            file.flush()
+            expect(by_pipe([*live, "--checked", "--script", file.name], b""), (2, answer.encode(), b""), line)
+        if "S8" in answer:
+            expect(by_pipe(live, line.encode())[0], 0, f"the status of {line}, unchecked")
+
+
+def checked_text(live):
+    """A checked rule base of texts, whose refusals have paths."""
+    given = UP_TEXT + 'transaction { emit 1 + "a" }\ntransaction { emit 7 }\n'
+    wanted = (0, b"unit 1 committed\nok 1\nrefused S8 kinds /1/0/1/2\nunit 2 committed\nemit 7\nok 2\n", b"")
+    expect(by_pipe([*live, "--checked", "--text"], given.encode()), wanted, "status, answers and standard error")
+
+
+# A file of signals, and what it lets later lines give, where no rule of UP waits for them.
+SIGNALS = '[["paid", ["int", "text"]]]'
+DECLARED_CASES = {
+    "as declared": (["tx", [["signal", "paid", [1, "a"]]]], "unit 2 committed\nok 2\n"),
+    "more arguments": (["tx", [["signal", "paid", [1, "a", True]]]], "unit 2 committed\nok 2\n"),
+    "another kind": (["tx", [["signal", "paid", [1, 2]]]], "refused S8 kinds /1/0/2/1\n"),
+    "too few": (["tx", [["signal", "paid", [1]]]], "refused S8 kinds /1/0\n"),
+    "a rule's signal": (["tx", [["signal", "go", ["a"]]]], "refused S8 kinds /1/0/2/0\n"),
+}
+
+# Files that give no signals, and what is said.
+WRONG_SIGNALS = {
+    "[": "signals refused S1\n", '[["paid",["number"]]]': "signals refused S2 /0/1/0\n",
+    '[["paid",[]],["paid",[]]]': "signals refused S4 /1/0\n",
+}
+
+
+def declared_signals(live):
+    """With --signals a rule base is checked, and the file says what signals carry that no rule of the script reads. A
+    rule that uses a declared argument as another kind is refused."""
+    with tempfile.NamedTemporaryFile() as file:
+        file.write(SIGNALS.encode())
+        file.flush()
+        for words in (["--signals", file.name], ["--checked", f"--signals={file.name}"]):
+            for name, (line, answers) in DECLARED_CASES.items():
+                wanted = (0, f"unit 1 committed\nok 1\n{answers}".encode(), b"")
+                expect(by_pipe([*live, *words], f"{UP_CHECKED}\n{json.dumps(line)}\n".encode()), wanted, name)
+            reads = script(rules=[["add", ["signal", "paid"], "immediate", [], "immediate",
+                                   [["emit", ["+", ["arg", 0, 1], 1]]]]])
+            expect(by_pipe([*live, *words], reads.encode()), (2, b"refused S8 kinds /rules/0/5/0/1/1\n", b""), reads)
+    expect(by_pipe([*live, "--signals", "/nowhere/signals"], b""), (3, b"", b"the signals' file can't be read\n"),
+           "no file of signals")
+    for text, said in WRONG_SIGNALS.items():
+        with tempfile.NamedTemporaryFile() as file:
+            file.write(text.encode())
+            file.flush()
+            expect(by_pipe([*live, "--signals", file.name], UP.encode()), (3, b"", said.encode()), text)
+
+
+def checked_at_once(live):
+    """A checked rule base answers each line before the next is sent, also the script."""
+    session = {UP_CHECKED: "unit 1 committed\nok 1\n", '["tx",[["if",1,[],[]]]]': "refused S8 kinds /1/0/1\n"}
+    with started([*live, "--checked"], subprocess.PIPE, subprocess.PIPE, subprocess.DEVNULL) as running:
+        for line, answer in session.items():
+            running.stdin.write(f"{line}\n".encode())
+            running.stdin.flush()
+            expect(read_within(running, len(answer)), answer, f"the answer to {line}")
+        running.stdin.close()
+        expect((running.stdout.read(), running.wait(LIMIT)), (b"", 0), "what comes at the end")
+
+
 # Scripts in files, on lines of their own.
 FILE = json.dumps(json.loads(UP), indent=1)
 FILE_TEXT = UP_TEXT.replace(" rule", "\n\n# a rule\nrule").replace(" transaction", "\ntransaction")
@@ -621,9 +736,12 @@ def checks(programs, sessions):
         yield name, lambda given=given, answers=answers, status=status: case(live, given, answers, status)
     for name, (given, answers) in TEXT_CASES.items():
         yield name, lambda given=given, answers=answers: text_case(live, given, answers)
+    for name, (line, answers) in CHECKED_CASES.items():
+        yield name, lambda line=line, answers=answers: checked_case(live, line, answers)
     for name, how in FILE_CASES.items():
         yield name, lambda how=how: file_case(live, *how)
-    for look in (stored, trees, refused_text, refused_words, refused_files, failed_read, failed_write, answers_at_once):
+    for look in (stored, trees, refused_text, refused_words, refused_files, checked_scripts, checked_text,
+                 declared_signals, checked_at_once, failed_read, failed_write, answers_at_once):
         yield look.__name__.replace("_", " "), lambda look=look: look(live)
     yield "hipac has no file", lambda: hipac_has_no_file(programs.hipac)
     if "HIPAC_LIVE" not in os.environ:

@@ -35,8 +35,9 @@ enum {
 
 /* Options of hipac_open, which may be added. */
 enum {
-    HIPAC_TREE = 1, /* answers also show what each transaction did */
-    HIPAC_TEXT = 2  /* the script and the lines are text in the notation, and not JSON */
+    HIPAC_TREE = 1,   /* answers also show what each transaction did */
+    HIPAC_TEXT = 2,   /* the script and the lines are text in the notation, and not JSON */
+    HIPAC_CHECKED = 4 /* what could ever end with A3, A6 or A7 is refused, the script too */
 };
 
 /* Opens a base by its script, which may have many lines, and answers the script. A base that `base` has is closed

@@ -51,6 +51,8 @@ COSTS = {
     "hp_sessions": 480,
     "hp_lines": 25,
     "hp_analysis": 100,
+    "hp_signals": 60,
+    "hp_checked": 180,
     "hp_text": 600,
     "hp_print": 600,
     "hp_notation": 100,

@@ -132,7 +132,7 @@ static void wrong_scripts(hipac_base *base) {
     memcpy(longest, SCRIPT, strlen(SCRIPT));
     expect("the longest script", opened(base, longest, MOST, 0), HIPAC_OK, "unit 1 committed\nok 1\n");
     refused_script(base, longest, MOST + 1, 0, "refused S5 size\n");
-    for (uint32_t options = 4; options; options <<= 1)
+    for (uint32_t options = 8; options; options <<= 1)
         for (int time = 0; time < 2; time++) {
             expect("unknown options", opened(base, SCRIPT, strlen(SCRIPT), options | 1), HIPAC_UNKNOWN, NULL);
             expect("a line after it", line(base, "[\"show\"]"), HIPAC_CLOSED, NULL);
@@ -193,13 +193,37 @@ static void every_function(hipac_base *base, uint32_t options) {
            is_text ? "refused S2 1:7\n" : "refused S2 /1\n");
 }
 
+/* A rule that adds 1 to what a signal has. */
+static const char ADDS[] =
+    "version 1 rule adds on signal go do { emit event.arg(0) + 1 } transaction { install adds }";
+
+/* What a checked base refuses runs in another. */
+static void checked(hipac_base *base) {
+    static const char NEGATES[] = "version 1 transaction { emit -\"a\" }";
+    static const char ENDLESS[] = "version 1 class c {} rule r on create c do { create c(1) }";
+    const char *wrong = "transaction { emit 1 signal go(\"a\") }";
+    expect("a script", opened(base, ADDS, strlen(ADDS), HIPAC_TEXT), HIPAC_OK, "unit 1 committed\nok 1\n");
+    expect("a wrong argument", line(base, wrong), HIPAC_OK, "unit 2 committed\nemit 1\nok 2\n");
+    expect("a script", opened(base, ADDS, strlen(ADDS), HIPAC_TEXT | HIPAC_CHECKED), HIPAC_OK,
+           "unit 1 committed\nok 1\n");
+    expect("a wrong argument, checked", line(base, wrong), HIPAC_REFUSED, "refused S8 kinds /1/1/2/0\n");
+    expect("its refusal again", again(base), HIPAC_OK, "refused S8 kinds /1/1/2/0\n");
+    expect("an argument", line(base, "transaction { signal go(6) }"), HIPAC_OK, "unit 2 committed\nemit 7\nok 2\n");
+    expect("get", got(base, "acct", 1), HIPAC_REFUSED, "refused S4 /1\n");
+    expect("show", shown(base), HIPAC_OK, "rule adds enabled\nok 2\n");
+    refused_script(base, NEGATES, strlen(NEGATES), HIPAC_TEXT | HIPAC_CHECKED, "refused S8 kinds unit 1 /0/1/1\n");
+    refused_script(base, ENDLESS, strlen(ENDLESS), HIPAC_TEXT | HIPAC_CHECKED, "refused S8 depth\n");
+    refused_script(base, "{", 1, HIPAC_CHECKED, "refused S1\n");
+}
+
 static void functions(void) {
     hipac_base base = HIPAC_NONE;
     if (hipac_version() != 1 || hipac_version() != 1)
         exit((fputs("FAILED the version isn't 1\n", stderr), 1));
     closed_handle(&base);
     wrong_scripts(&base);
-    for (uint32_t options = 0; options < 4; options++) {
+    checked(&base);
+    for (uint32_t options = 0; options < 8; options++) {
         /* Opened again over a base that is there, and over none. */
         every_function(&base, options);
         every_function(&base, options);
@@ -318,13 +342,13 @@ void __wrap_free(void *at) {
 
 /* A base, three lines and a question, each with its status or with HIPAC_MEMORY. After HIPAC_MEMORY in a line the base
    answers nothing but that. Says whether memory ran out. */
-static int whole_life(hipac_base *base, int is_text) {
+static int whole_life(hipac_base *base, uint32_t options) {
     static const char *const answers[] = {"unit 2 committed\nok 2\n", "unit 3 committed\nok 3\n",
                                           "unit 4 committed\nok 4\n"};
+    int is_text = !!(options & HIPAC_TEXT), is_lost = 0;
     const char *script = is_text ? TEXT : SCRIPT;
     char text[200];
-    int is_lost = 0;
-    struct told told = opened(base, script, strlen(script), is_text ? HIPAC_TEXT : 0);
+    struct told told = opened(base, script, strlen(script), options);
     if (told.status == HIPAC_MEMORY) {
         expect("no memory for a script", told, HIPAC_MEMORY, NULL);
         expect("a line after it", line(base, "[\"show\"]"), HIPAC_CLOSED, NULL);
@@ -350,14 +374,16 @@ static int whole_life(hipac_base *base, int is_text) {
 
 static void refuse(void) {
     hipac_base base = HIPAC_NONE;
-    for (int way = 0; way < 4; way++) {
+    /* JSON, a text, and a checked text. */
+    static const uint32_t ways[] = {0, HIPAC_TEXT, HIPAC_TEXT | HIPAC_CHECKED};
+    for (int way = 0; way < 6; way++) {
         refuses_all = way & 1;
         long before = kept, at = 0;
         int is_lost;
         do {
             refused = ++at;
             asked = 0;
-            is_lost = whole_life(&base, way >> 1);
+            is_lost = whole_life(&base, ways[way >> 1]);
             hipac_close(&base);
             if (kept != before)
                 exit((fprintf(stderr, "FAILED refusal %ld leaks %ld blocks\n", at, kept - before), 1));

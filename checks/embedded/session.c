@@ -1,6 +1,6 @@
 /* Answers lines as hipac-live does, by the library: the same words of the command line, the same bytes, the same status.
 
-   session [--workers N] [--tree] [--text] [--script FILE] */
+   session [--workers N] [--tree] [--text] [--checked] [--script FILE] */
 #define _POSIX_C_SOURCE 200809L
 #include "hipac.h"
 #include <stdio.h>
@@ -44,6 +44,11 @@ static void answer_line(const char *line, size_t line_length) {
     put(status, answer, length, 0);
 }
 
+static uint32_t option_of(const char *word) {
+    return !strcmp(word, "--tree") ? HIPAC_TREE : !strcmp(word, "--text") ? HIPAC_TEXT
+         : !strcmp(word, "--checked") ? HIPAC_CHECKED : 0;
+}
+
 int main(int count, char **words) {
     uint32_t options = 0;
     const char *script = NULL;
@@ -53,7 +58,7 @@ int main(int count, char **words) {
         else if (!strcmp(words[at], "--script"))
             script = words[++at];
         else
-            options |= !strcmp(words[at], "--tree") ? HIPAC_TREE : !strcmp(words[at], "--text") ? HIPAC_TEXT : 0;
+            options |= option_of(words[at]);
     char *line = NULL;
     size_t room = 0, script_length = 0;
     ssize_t length;

@@ -51,7 +51,6 @@ PATIENCE = 10
 REASONS = {
     "A1": "that number is taken",
     "A2": "there is nothing of that number",
-    "A3": "a number is wanted there",
     "A9": "the numbers are too large",
 }
 
@@ -68,7 +67,8 @@ TRANSACTIONS = {
     "pay": 'update order($number) set state = "paid"',
     "ship": 'update order($number) set state = "shipped"',
     "cancel": 'update order($number) set state = "cancelled"',
-    "deliver": "with product($product) as p { update product(p.key) set stock = p.stock + $count, awaited = false }",
+    "deliver": "with product($product) as p { update product(p.key) set stock = p.stock + $count, awaited = false "
+               "signal stocked(p.key) }",
     "complain": "with product($product) as p { signal complaint(p.key) }",
 }
 
@@ -134,6 +134,8 @@ def end_of(units: List[Unit]) -> str:
 
 def reason_of(refused: Refused, word: str, base: Base) -> str:
     """Why a request was refused, in the words of a client, who has seen no rules and no paths."""
+    if refused.code == "S8":
+        return "a number is wanted there"
     if word == "clock" and refused.limit is None:
         return f"the clock doesn't go back: it is minute {base.time}"
     return "that is too long" if refused.limit else "that can't be asked"
@@ -259,7 +261,7 @@ def listening(*servers: socketserver.BaseServer) -> Iterator[List[threading.Thre
 def serve(path: str) -> int:
     """Takes requests while the journal is read, and answers them from then on."""
     with CountedJournal(path) as journal, Desk(journal) as desk, page.PageServer(desk) as pages:
-        with listening(desk, pages) as threads, Base.recover(journal, rules=RULES, by="program") as base:
+        with listening(desk, pages) as threads, Base.recover(journal, rules=RULES, checked=True, by="program") as base:
             desk.base = base
             print(f"desk: open on port {ADDRESS[1]}, with a page at {pages.url}; lines replayed: {base.replayed}; "
                   f"units so far: {base.units}", file=sys.stderr)

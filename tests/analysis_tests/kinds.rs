@@ -1,7 +1,9 @@
 //! Kinds: what is accepted, what is refused and where, and what is inferred.
 
 use super::fixtures::{script, sort_name, verdict};
-use hp_analysis::{Declaration, Sort, infer, kind_findings, library_findings, unit_findings};
+use hp_analysis::{
+    Declaration, Sort, infer, infer_with, kind_findings, library_findings, unit_findings,
+};
 use hp_value::Kind;
 use std::alloc::Global;
 use std::process::Abort;
@@ -268,6 +270,45 @@ fn says_which_kinds_nothing_gives(rt: HostRuntime) -> Result<(), Fail> {
     let read = script(alloc, rules.as_str(), "")?;
     let found = infer(alloc, &read.library, &read.items)?;
     assert!(rt; found.unknown.len() == 2);
+    Ok(())
+}
+
+/// A declaration of one signal.
+fn given(alloc: Global, name: &str, kinds: &[Kind]) -> Result<Declaration, Fail> {
+    let mut sorts = Vec::new(alloc);
+    for kind in kinds {
+        sorts.push(Sort::Only(*kind))?;
+    }
+    let mut declaration = Declaration::new(alloc);
+    declaration.declare(String::from_str(alloc, name)?, sorts)?;
+    Ok(declaration)
+}
+
+/// What is passed on to a signal that is given has the kind that is given.
+#[test]
+fn begins_with_what_is_given(rt: HostRuntime) -> Result<(), Fail> {
+    let alloc = rt.alloc();
+    let passing = r#"["signal", "paid", [["arg", 0, 0], ["arg", 0, 1]]]"#;
+    let rules = rule(alloc, r#"["signal", "asked"]"#, passing)?;
+    let read = script(alloc, rules.as_str(), "")?;
+    let paid = given(alloc, "paid", &[Kind::Text])?;
+    let found = infer_with(alloc, &read.library, &read.items, paid)?;
+    let asked = found.declaration.signature("asked");
+    assert!(rt; asked.len() == 2 && asked[0] == Sort::Only(Kind::Text) && asked[1] == Sort::Any);
+    assert!(rt; found.declaration.signature("paid").len() == 1);
+    Ok(())
+}
+
+/// A signal that is given without arguments has none, whatever rules read.
+#[test]
+fn keeps_what_is_given(rt: HostRuntime) -> Result<(), Fail> {
+    let alloc = rt.alloc();
+    let rules = rule(alloc, r#"["signal", "tick"]"#, r#"["emit", ["arg", 0, 0]]"#)?;
+    let read = script(alloc, rules.as_str(), "")?;
+    let tick = given(alloc, "tick", &[])?;
+    let found = infer_with(alloc, &read.library, &read.items, tick)?;
+    assert!(rt; found.declaration.is_declared("tick"));
+    assert!(rt; library_findings(alloc, &read.library, &found.declaration)?.len() == 1);
     Ok(())
 }
 

@@ -1,7 +1,7 @@
 //! Runs whose script is in a file.
 
 use super::fixtures::{ANSWERS, EASY, SCRIPT, Steps, bytes_until, later_lines, new_device};
-use hp_live::{Fault, Options, Status, run};
+use hp_live::{Fault, Options, Start, Status, run};
 use hp_report::Watched;
 use std::process::Abort;
 use std::test::Fail;
@@ -42,7 +42,11 @@ fn answered<R: AllocGlobal + Threads + Sync>(
     script.extend_from_slice(file)?;
     let mut reader = Watched::new(new_device(alloc, input, EASY));
     let mut writer = Watched::new(new_device(alloc, b"", writes));
-    let ended = run(rt, alloc, Some(script), &mut reader, &mut writer, options);
+    let start = Start::of(alloc, Some(script), None, options.text, &mut reader);
+    let ended = match start {
+        Ok(start) => run(rt, alloc, start, &mut reader, &mut writer, options),
+        Err(fault) => Err(fault),
+    };
     Ok((
         writer.into_inner().output,
         reader.into_inner().input.len(),

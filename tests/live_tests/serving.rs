@@ -3,8 +3,10 @@
 use super::fixtures::{
     ANSWERS, EASY, FOURTH_ANSWERS, Steps, bytes_until, fourth_session, new_device, session,
 };
-use hp_live::{Fault, Options, Status, run};
+use hp_analysis::Declaration;
+use hp_live::{Fault, Options, Start, Status, run};
 use hp_report::Watched;
+use hp_signals::read_signals;
 use std::process::Abort;
 use std::test::Fail;
 use std::thread::Threads;
@@ -16,6 +18,17 @@ fn served<R: AllocGlobal + Threads + Sync>(
     reads: Steps,
     writes: Steps,
 ) -> (Vec<u8>, Result<Status, Fault>) {
+    served_by(rt, input, None, reads, writes)
+}
+
+/// The same, by what is given of signals, if the rule base is checked.
+fn served_by<R: AllocGlobal + Threads + Sync>(
+    rt: &R,
+    input: &[u8],
+    given: Option<Declaration>,
+    reads: Steps,
+    writes: Steps,
+) -> (Vec<u8>, Result<Status, Fault>) {
     let alloc = rt.alloc();
     let mut reader = Watched::new(new_device(alloc, input, reads));
     let mut writer = Watched::new(new_device(alloc, b"", writes));
@@ -24,7 +37,11 @@ fn served<R: AllocGlobal + Threads + Sync>(
         tree: false,
         text: false,
     };
-    let ended = run(rt, alloc, None, &mut reader, &mut writer, options);
+    let start = Start::of(alloc, None, given, options.text, &mut reader);
+    let ended = match start {
+        Ok(start) => run(rt, alloc, start, &mut reader, &mut writer, options),
+        Err(fault) => Err(fault),
+    };
     (writer.into_inner().output, ended)
 }
 
@@ -143,6 +160,38 @@ fn lines_of_version_2_have_none_of_them(rt: HostRuntime) -> Result<(), Fail> {
 "#;
     let answers = "ok 0\nrefused S2 /1/0/1\nrefused S2 /1/0\n";
     let (output, _ended) = served(&rt, input.as_bytes(), EASY, EASY);
+    assert_eq!(rt; output.as_slice(), answers.as_bytes());
+    Ok(())
+}
+
+#[test]
+fn a_checked_rule_base_answers_lines_wherever_they_are_cut(rt: HostRuntime) -> Result<(), Fail> {
+    let input = session(rt.alloc())?;
+    for first in [1usize, 2, 100, 400, 700, 4096] {
+        for later in [1usize, 4096] {
+            let reads = Steps {
+                first,
+                later,
+                fails_at: 0,
+            };
+            let given = Declaration::new(rt.alloc());
+            let (output, ended) = served_by(&rt, input.as_bytes(), Some(given), reads, EASY);
+            assert_eq!(rt; output.as_slice(), ANSWERS.as_bytes());
+            assert_eq!(rt; ended, Ok(Status::Reported));
+        }
+    }
+    Ok(())
+}
+
+#[test]
+fn a_checked_rule_base_refuses_what_is_not_as_given(rt: HostRuntime) -> Result<(), Fail> {
+    let input = r#"{"version":1,"classes":[],"rules":[],"items":[]}
+["tx",[["signal","go",[1]]]]
+["tx",[["signal","go",[true]]]]
+"#;
+    let answers = "ok 0\nunit 1 committed\nok 1\nrefused S8 kinds /1/0/2/0\n";
+    let given = read_signals(rt.alloc(), br#"[["go",["int"]]]"#)?;
+    let (output, _ended) = served_by(&rt, input.as_bytes(), Some(given), EASY, EASY);
     assert_eq!(rt; output.as_slice(), answers.as_bytes());
     Ok(())
 }

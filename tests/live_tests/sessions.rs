@@ -1,6 +1,8 @@
 //! Rule bases in the caller's own process.
 
 use super::fixtures::{ANSWERS, SCRIPT, later_lines};
+use hp_analysis::Declaration;
+use hp_checked::declaration_for;
 use hp_live::{Options, Outcome, Session};
 use std::process::Abort;
 use std::test::Fail;
@@ -39,7 +41,7 @@ fn expect<R: Abort>(
 fn the_answers_are_those_to_the_lines(rt: HostRuntime) -> Result<(), Fail> {
     let lines = later_lines(rt.alloc())?;
     let mut answers = Vec::new(rt.alloc());
-    let (mut session, _) = Session::open(rt.alloc(), SCRIPT.as_bytes(), JSON)?;
+    let (mut session, _) = Session::open(rt.alloc(), SCRIPT.as_bytes(), JSON, None)?;
     answers.extend_from_slice(&session.answer)?;
     for line in lines.split('\n') {
         session.line(rt.alloc(), line.as_bytes())?;
@@ -51,7 +53,7 @@ fn the_answers_are_those_to_the_lines(rt: HostRuntime) -> Result<(), Fail> {
 
 #[test]
 fn each_line_becomes_something(rt: HostRuntime) -> Result<(), Fail> {
-    let (mut session, opened) = Session::open(rt.alloc(), NOTATION.as_bytes(), TEXT)?;
+    let (mut session, opened) = Session::open(rt.alloc(), NOTATION.as_bytes(), TEXT, None)?;
     expect(
         &rt,
         &session,
@@ -76,7 +78,7 @@ fn each_line_becomes_something(rt: HostRuntime) -> Result<(), Fail> {
 
 #[test]
 fn an_object_is_asked_for_in_json(rt: HostRuntime) -> Result<(), Fail> {
-    let (mut session, _) = Session::open(rt.alloc(), NOTATION.as_bytes(), TEXT)?;
+    let (mut session, _) = Session::open(rt.alloc(), NOTATION.as_bytes(), TEXT, None)?;
     let became = session.get(rt.alloc(), b"acct", 1)?;
     expect(
         &rt,
@@ -101,7 +103,7 @@ fn an_object_is_asked_for_in_json(rt: HostRuntime) -> Result<(), Fail> {
 
 #[test]
 fn nothing_is_answered_after_a_refused_script(rt: HostRuntime) -> Result<(), Fail> {
-    let (mut session, opened) = Session::open(rt.alloc(), NOTATION.as_bytes(), JSON)?;
+    let (mut session, opened) = Session::open(rt.alloc(), NOTATION.as_bytes(), JSON, None)?;
     expect(&rt, &session, opened, Outcome::Refused, "refused S1\n")?;
     let became = session.line(rt.alloc(), b"[\"show\"]")?;
     expect(&rt, &session, became, Outcome::Closed, "")?;
@@ -111,7 +113,7 @@ fn nothing_is_answered_after_a_refused_script(rt: HostRuntime) -> Result<(), Fai
 
 #[test]
 fn a_line_has_the_size_of_a_script(rt: HostRuntime) -> Result<(), Fail> {
-    let (mut session, _) = Session::open(rt.alloc(), NOTATION.as_bytes(), TEXT)?;
+    let (mut session, _) = Session::open(rt.alloc(), NOTATION.as_bytes(), TEXT, None)?;
     let mut line = Vec::new(rt.alloc());
     line.extend_from_slice(b"show")?;
     for size in [1_048_576usize, 1_048_577, 1_048_578] {
@@ -124,4 +126,28 @@ fn a_line_has_the_size_of_a_script(rt: HostRuntime) -> Result<(), Fail> {
         }
     }
     Ok(())
+}
+
+/// A script whose rule uses the argument of its signal as a number.
+const GUARDED: &str = "version 1 class acct { bal: int }
+rule adds on signal go do { create acct(1) set bal = event.arg(0) }
+transaction { install adds }";
+
+#[test]
+fn a_checked_session_refuses_other_kinds(rt: HostRuntime) -> Result<(), Fail> {
+    let alloc = rt.alloc();
+    let given = Declaration::new(alloc);
+    let checks = Some(declaration_for(alloc, GUARDED.as_bytes(), true, given)?);
+    let (mut session, opened) = Session::open(alloc, GUARDED.as_bytes(), TEXT, checks)?;
+    let answer = "unit 1 committed\nok 1\n";
+    expect(&rt, &session, opened, Outcome::Done, answer)?;
+    let became = session.line(alloc, b"transaction { signal go(\"a\") }")?;
+    let refusal = "refused S8 kinds /1/0/2/0\n";
+    expect(&rt, &session, became, Outcome::Refused, refusal)?;
+    let became = session.line(alloc, b"transaction { signal go(7) }")?;
+    let answer = "unit 2 committed\nok 2\n";
+    expect(&rt, &session, became, Outcome::Done, answer)?;
+    let became = session.get(alloc, b"acct", 1)?;
+    let object = "object acct 1 bal=7\nok 2\n";
+    expect(&rt, &session, became, Outcome::Done, object)
 }

@@ -22,6 +22,8 @@ fn with_file<R: AllocGlobal>(rt: &R, text: bool, name: &str) -> Result<LiveOptio
             text,
         },
         script: Some(String::from_str(rt.alloc(), name)?),
+        checked: false,
+        signals: None,
     })
 }
 
@@ -46,8 +48,24 @@ fn words_may_name_none(rt: HostRuntime) -> Result<(), Fail> {
     let wanted = LiveOptions {
         options,
         script: None,
+        checked: false,
+        signals: None,
     };
     assert_eq!(rt; asked(&rt, &["--workers", "2", "--tree"])?, Ok(wanted));
+    Ok(())
+}
+
+#[test]
+fn words_may_ask_for_checks(rt: HostRuntime) -> Result<(), Fail> {
+    let mut checked = with_file(&rt, false, "a")?;
+    checked.checked = true;
+    assert_eq!(rt; asked(&rt, &["--script", "a", "--checked"])?, Ok(checked));
+    let mut declared = with_file(&rt, false, "a")?;
+    declared.signals = Some(String::from_str(rt.alloc(), "b")?);
+    assert_eq!(rt;
+        asked(&rt, &["--signals", "b", "--script", "a"])?,
+        Ok(declared)
+    );
     Ok(())
 }
 

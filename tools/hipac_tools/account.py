@@ -11,7 +11,7 @@ from itertools import zip_longest
 from typing import Any, Dict, Iterable, List, Optional, Set, Tuple
 
 from . import journal, language, pasts, program, report, rulebase
-from .command import DIFFERENT, FAILED, REFUSED, WRONG_WORDS
+from .command import DIFFERENT, FAILED, PLAIN_START, REFUSED, Start, WRONG_WORDS
 from .course import Course, STEPS, TooLong
 from .notes import Note, Signal
 from .pasts import Hearing
@@ -53,12 +53,12 @@ class Account:
 
 
 def account_of(script_bytes: bytes, report_text: Optional[str] = None, watch: Iterable[str] = (),
-               steps: int = STEPS, script_file: Optional[str] = None) -> Account:
+               steps: int = STEPS, start: Start = PLAIN_START) -> Account:
     """Runs the program if no report is given, reads the report, and notes why things happened in it. A journal is
     explained as the script of its accepted lines; its own script may be in a file."""
     is_own = report_text is None
     if report_text is None:
-        script_bytes, report_text = _run(script_bytes, script_file)
+        script_bytes, report_text = _run(script_bytes, start)
     try:
         text = script_bytes.decode("utf-8")
         base, places = rulebase.read(text), Places(text)
@@ -96,10 +96,10 @@ def _different(is_own: bool, where: str) -> NoAccount:
     return NoAccount(f"the report isn't this script's: {where}", DIFFERENT)
 
 
-def _run(script_bytes: bytes, script_file: Optional[str]) -> Tuple[bytes, str]:
+def _run(script_bytes: bytes, start: Start) -> Tuple[bytes, str]:
     """The script, and the program's report on it."""
     try:
-        ran = journal.run_if_one(script_bytes, script_file)
+        ran = journal.run_if_one(script_bytes, start)
     except journal.NoJournal as fault:
         raise NoAccount(str(fault), fault.status) from None
     if ran is not None:

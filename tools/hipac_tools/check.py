@@ -27,14 +27,16 @@ from .proved import Proved, proved_of
 from .positions import Node, NotJson, find, line_and_column, parse
 from .wording import counted
 
-USAGE = """usage: hipac-tools check [--live] [--proved] SCRIPT ..
+USAGE = """usage: hipac-tools check [--live] [--proved] [--signals FILE] SCRIPT ..
 
 Says of each script whether the program accepts it. Of a refused one it says where and why. A script is JSON, or text in
 the notation (NAME.rules). With --live any transaction may follow the script's, as in a rule base that stays up. With
---proved it also says what ./hipac-check proves of an accepted one. `-` is standard input.
+--proved it also says what ./hipac-check proves of an accepted one, and with --signals by the signatures of FILE. `-` is
+standard input.
 The exit status is the program's: 0 accepted, 2 refused, 3 the words are wrong, 4 the program failed."""
 
-OPTIONS = ("--live", "--proved")
+SIGNALS = "--signals"
+OPTIONS = ("--live", "--proved", SIGNALS)
 PLACE = re.compile(r"[0-9]+:[0-9]+")
 """A line and a column, as refusals of texts have them."""
 
@@ -68,14 +70,24 @@ def main(arguments: list[str]) -> int:
     if arguments in (["--help"], ["-h"]):
         print(USAGE)
         return DONE
-    names = [argument for argument in arguments if argument not in OPTIONS]
-    if not names or unknown_option(names):
+    names, signals = without_signals(arguments)
+    names = [argument for argument in names if argument not in OPTIONS]
+    if not names or unknown_option(names) or arguments[-1] == SIGNALS:
         return wrong_words("check", USAGE, arguments, OPTIONS)
-    return max(check(name, "--live" in arguments, "--proved" in arguments) for name in names)
+    is_proved = "--proved" in arguments or signals is not None
+    return max(check(name, "--live" in arguments, is_proved, signals) for name in names)
 
 
-def check(name: str, is_live: bool = False, is_proved: bool = False) -> int:
-    """Checks one script, and returns the program's status."""
+def without_signals(arguments: list[str]) -> tuple[list[str], Optional[str]]:
+    """The words without the file that declares signals, and that file, if it is named."""
+    if SIGNALS not in arguments:
+        return arguments, None
+    at = arguments.index(SIGNALS)
+    return arguments[:at] + arguments[at + 2:], "".join(arguments[at + 1:at + 2])
+
+
+def check(name: str, is_live: bool = False, is_proved: bool = False, signals: Optional[str] = None) -> int:
+    """Checks one script, and returns the program's status; or that of wrong words, if a file of signals is refused."""
     try:
         script = bytes_of(name)
     except OSError as fault:
@@ -85,8 +97,10 @@ def check(name: str, is_live: bool = False, is_proved: bool = False) -> int:
     ended = program.run(script, program.words_for(is_notation))
     if ended.status == DONE:
         own = own_reading(script, is_notation, is_live)
-        proved = proved_of(own.root.value) if is_proved and own.root else None
+        proved = proved_of(own.root.value, signals) if is_proved and own.root else None
         print("\n".join(accepted(shown(name), own, proved)))
+        if signals is not None and isinstance(proved, str):
+            return WRONG_WORDS
     elif ended.status == REFUSED and ended.output.startswith("refused "):
         refusal = ended.output[len("refused "):].strip()
         print("\n".join(refused(shown(name), refusal, own_reading(script, is_notation))))

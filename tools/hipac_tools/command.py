@@ -3,8 +3,10 @@
 from __future__ import annotations
 
 import json
+import os
 import re
 import sys
+from dataclasses import dataclass
 from typing import BinaryIO, Callable, Iterable, Optional, TypeVar
 
 from .near import nearest
@@ -24,8 +26,10 @@ STANDARD_INPUT = "-"
 MOST_BYTES = 1_048_576
 """So many bytes may a script have."""
 
-SCRIPT_OPTION = "--script"
-"""Names the file of a journal's script. Whoever takes a journal takes this option."""
+SCRIPT_OPTION, CHECKED_OPTION, SIGNALS_OPTION = "--script", "--checked", "--signals"
+START_OPTIONS = (SCRIPT_OPTION, CHECKED_OPTION, SIGNALS_OPTION)
+"""Words of ./hipac-live: the file of a journal's script, and how its lines were checked. Whoever takes a journal takes
+these options."""
 
 MOST_REPORT_BYTES = 1 << 28
 """So many bytes of a report are read. A report may be much longer than its script."""
@@ -51,7 +55,7 @@ def is_text(content: bytes, name: str = "") -> bool:
     return BEGINS_TEXT.match(content) is not None
 
 
-def is_journal(content: bytes) -> bool:
+def is_journal(content: bytes, is_checked: bool = False) -> bool:
     """Whether these are lines of which the first is a script by itself. A text may also be on several lines, and then
     isn't a journal: in one the next line is an item, and the lines together are no script, or mean the same."""
     later = content.partition(b"\n")[2].strip()
@@ -60,7 +64,7 @@ def is_journal(content: bytes) -> bool:
     if not is_text(content):
         return True
     next_line = later.partition(b"\n")[0]
-    return is_read(read_line, decoded(next_line)) and not is_read(read_bytes, content)
+    return is_read(read_line, decoded(next_line)) and (is_checked or not is_read(read_bytes, content))
 
 
 def begins_journal(content: bytes) -> bool:
@@ -129,12 +133,38 @@ def unread(fault: OSError, name: str) -> str:
     return f"{fault.filename or shown(name)}: {fault.strerror or fault}"
 
 
-def without_script(arguments: Iterable[str]) -> tuple[list[str], Optional[str]]:
-    """The words without `--script FILE`, and that file. The option without a file stays, and is then one too many."""
-    words = list(arguments)
-    if SCRIPT_OPTION not in words[:-1]:
+@dataclass(frozen=True)
+class Start:
+    """How the rule base of a journal was started: the file of its script, if it had one, and whether it was checked,
+    perhaps by a file of signals."""
+
+    script_file: Optional[str] = None
+    is_checked: bool = False
+    signals: Optional[str] = None
+
+    @property
+    def checks(self) -> list[str]:
+        """The words by which the program checks the lines."""
+        words = [CHECKED_OPTION] if self.is_checked else []
+        return words if self.signals is None else [*words, SIGNALS_OPTION, os.path.abspath(self.signals)]
+
+
+PLAIN_START = Start()
+
+
+def without_start(arguments: Iterable[str]) -> tuple[list[str], Start]:
+    """The words without those of a start, and what they say. An option without its file stays, and is then one too
+    many."""
+    words, script_file = _without_file(list(arguments), SCRIPT_OPTION)
+    words, signals = _without_file(words, SIGNALS_OPTION)
+    left = [word for word in words if word != CHECKED_OPTION]
+    return left, Start(script_file, len(left) < len(words), signals)
+
+
+def _without_file(words: list[str], option: str) -> tuple[list[str], Optional[str]]:
+    if option not in words[:-1]:
         return words, None
-    at = words.index(SCRIPT_OPTION)
+    at = words.index(option)
     return words[:at] + words[at + 2:], words[at + 1]
 
 

@@ -8,7 +8,7 @@ from typing import Iterator, List, Optional, Set, Tuple
 from . import reasons
 from .account import Account, NoAccount, account_of
 from .command import (
-    DONE, REFUSED, SCRIPT_OPTION, bytes_of, shown, unknown_option, unread, without_script, wrong_words,
+    DONE, REFUSED, START_OPTIONS, bytes_of, shown, unknown_option, unread, without_start, wrong_words,
 )
 from .faulting import Fault, consequence, faults_in, vetoes
 from .notes import undone_by
@@ -16,11 +16,11 @@ from .report import Transaction, Unit
 from .why import WIDTH, Lines, head_of
 from .wording import SOME, counted, sentence, some_of
 
-USAGE = """usage: hipac-tools faults SCRIPT [--script FILE]
+USAGE = """usage: hipac-tools faults SCRIPT [--script FILE] [--checked] [--signals FILE]
 
 Lists the conditions and actions that ended with a fault, unit by unit: the cause, the place, and what triggered the
 rule. Of a rule that vetoes it says that it didn't. `-` is standard input. SCRIPT may be a journal; if its script is in
-a file, --script names that.
+a file, --script names that, and it is run with --checked and --signals as its rule base was.
 The exit status is 0, 2 for a script that is refused, 3 for wrong words, 4 where the program failed, 5 where the program
 gives another report than following the script does."""
 
@@ -32,12 +32,12 @@ def main(arguments: List[str]) -> int:
     if arguments in (["--help"], ["-h"]):
         print(USAGE)
         return DONE
-    words, script_file = without_script(arguments)
+    words, start = without_start(arguments)
     if len(words) != 1 or unknown_option(words):
-        return wrong_words("faults", USAGE, arguments, [SCRIPT_OPTION])
+        return wrong_words("faults", USAGE, arguments, START_OPTIONS)
     name = words[0]
     try:
-        text = list_of_faults(account_of(bytes_of(name), script_file=script_file))
+        text = list_of_faults(account_of(bytes_of(name), start=start))
     except NoAccount as fault:
         print(f"faults: {shown(name)}: {fault}", file=sys.stderr)
         return fault.status

@@ -13,22 +13,23 @@ from typing import Iterable, Iterator, Sequence
 
 from . import influence, language, oversights, paths, picture, proved
 from . import rulebase as scripts
-from .command import DONE, SCRIPT_OPTION, unknown_option, without_script, write_file, wrong_words
+from .command import DONE, START_OPTIONS, unknown_option, without_start, write_file, wrong_words
 from .folding import folded
 from .influence import Deeds, Pattern, Reach
 from .notation.event_texts import event_text, on_text
 from .rulebase import Rule, RuleBase
 
-USAGE = """usage: hipac-tools graph SCRIPT [--live] [--proved] [--svg FILE] [--script FILE]
+USAGE = """usage: hipac-tools graph SCRIPT [--live] [--proved] [--svg FILE] [--script FILE] [--checked] [--signals FILE]
 
 Tells which rule may set off which, the cycles among them, the longest chain of firings, and what looks like an
 oversight. With --live any transaction may follow the script's, as in a rule base that stays up; so it is anyway where
 the script only installs rules and creates objects. With --proved ./hipac-check decides whether a run may meet A7. With
 --svg it also draws the picture: by Graphviz where `dot` is installed, else by a layout of its own. `-` is standard
-input. SCRIPT may be a journal; if its script is in a file, --script names that.
+input. SCRIPT may be a journal; if its script is in a file, --script names that, and it is run with --checked and
+--signals as its rule base was.
 The exit status is 0, or 2 where it is no script, or 3 where the words are wrong or a file can't be read or written."""
 
-OPTIONS = ("--live", "--proved", "--svg", SCRIPT_OPTION)
+OPTIONS = ("--live", "--proved", "--svg", *START_OPTIONS)
 
 SETS_OFF, PREPARES, FIRES = "sets off", "prepares", "fires"
 OPERATIONS = {"fire": FIRES, "install": "installs", "enable": "enables", "disable": "disables", "remove": "removes"}
@@ -124,7 +125,7 @@ def main(arguments: list[str]) -> int:
         print(USAGE)
         return DONE
     is_live, is_proved = "--live" in words, "--proved" in words
-    words, script_file = without_script(word for word in words if word not in ("--live", "--proved"))
+    words, start = without_start(word for word in words if word not in ("--live", "--proved"))
     target = None
     if "--svg" in words[:-1]:
         place = words.index("--svg")
@@ -133,7 +134,7 @@ def main(arguments: list[str]) -> int:
     if len(words) != 1 or unknown_option(words):
         return wrong_words("graph", USAGE, words, OPTIONS)
     try:
-        script = scripts.text_of(words[0], script_file)
+        script = scripts.text_of(words[0], start)
         graph = build(scripts.read_text(words[0], script), is_live)
     except scripts.Refused as fault:
         print(fault, file=sys.stderr)

@@ -15,26 +15,29 @@ from pathlib import Path
 from typing import Any, Iterator, List, Optional, Tuple
 
 from .command import (
-    DONE, FAILED, REFUSED, SCRIPT_OPTION, WRONG_WORDS, begins_journal, begins_with_item, bytes_of, is_journal,
-    is_script, is_text, shown, unread, without_script, wrong_words,
+    DONE, FAILED, PLAIN_START, REFUSED, SCRIPT_OPTION, START_OPTIONS, Start, WRONG_WORDS, begins_journal,
+    begins_with_item, bytes_of, is_journal, is_script, is_text, shown, unread, without_start, wrong_words,
 )
 from .notation.reader import decoded, read_bytes, read_line
 from .notation.tokens import NotText
 from .program import REPOSITORY, words_for
 
-JOURNAL_USAGE = """usage: hipac-tools journal JOURNAL [--until N] [--script FILE]
+JOURNAL_USAGE = """usage: hipac-tools journal JOURNAL [--until N] [--script FILE] [--checked] [--signals FILE]
 
 Writes the script of a journal: the journal's own script, with the items of the accepted later lines. They are found by
 running the journal. With --until it ends with unit N. For JOURNAL `-` is standard input. If the journal doesn't begin
-with its script, --script names the file that has it; if it does, places are then those in the file.
+with its script, --script names the file that has it; if it does, places are then those in the file. A journal of a
+checked rule base is run with --checked, or with --signals and its file.
 The exit status is 0, 2 for what is no journal, 3 for wrong words, 4 where the program failed."""
 
-SNAPSHOT_USAGE = """usage: hipac-tools snapshot JOURNAL [--until N] [--lose-pasts] [--script FILE]
+SNAPSHOT_USAGE = """\
+usage: hipac-tools snapshot JOURNAL [--until N] [--lose-pasts] [--script FILE] [--checked] [--signals FILE]
 
 Writes the lines of a new rule base that stands as the journal's does: the objects, the rules' statuses and the clock.
 It is a script on one line, or a journal if that is too long. Rules that would not go on as before are named, and then
 nothing is written unless --lose-pasts is given. With --until it stands as after unit N. If the journal doesn't begin
-with its script, --script names the file that has it.
+with its script, --script names the file that has it. A journal of a checked rule base is run with --checked, or with
+--signals and its file.
 The exit status is 0, 2 for what is no journal or would differ, 3 for wrong words, 4 where the program failed."""
 
 NO_SCRIPT = "this begins with an item, as a journal whose script is in a file: --script FILE names that"
@@ -50,11 +53,15 @@ class NoJournal(Exception):
 
 @dataclass(frozen=True)
 class Opening:
-    """The script of a journal: its first line, or the content of a file."""
+    """The script of a journal: its first line, or the content of a file; and how its lines are checked."""
 
     content: bytes
     is_text: bool
-    file: Optional[str] = None
+    start: Start = PLAIN_START
+
+    @property
+    def file(self) -> Optional[str]:
+        return self.start.script_file
 
     @property
     def value(self) -> Any:
@@ -111,7 +118,7 @@ def program_path() -> str:
 
 def answers_to(opening: Opening, lines: List[bytes]) -> Iterator[List[str]]:
     """The answers to a script and to lines, with their trees, each a list of lines."""
-    words = [program_path(), "--tree", *words_for(opening.is_text)]
+    words = [program_path(), "--tree", *opening.start.checks, *words_for(opening.is_text)]
     if opening.file is not None:
         words += [SCRIPT_OPTION, os.path.abspath(opening.file)]
     sent = lines if opening.file is not None else [opening.content, *lines]
@@ -133,17 +140,17 @@ def whole_lines(content: bytes) -> List[bytes]:
     return content.split(b"\n")[:-1]
 
 
-def divided(content: bytes, script_file: Optional[str]) -> Tuple[Opening, List[bytes]]:
+def divided(content: bytes, start: Start) -> Tuple[Opening, List[bytes]]:
     """The script of a journal, and its later lines."""
-    lines = whole_lines(content)
+    lines, script_file = whole_lines(content), start.script_file
     if script_file is None:
         if begins_with_item(content):
             raise NoJournal(NO_SCRIPT)
         if b"\n" not in content or not begins_journal(content):
             raise NoJournal("the first line is no script by itself")
-        return Opening(lines[0], is_text(lines[0])), lines[1:]
+        return Opening(lines[0], is_text(lines[0]), start), lines[1:]
     script = bytes_of(script_file)
-    opening = Opening(script, is_text(script, script_file), script_file)
+    opening = Opening(script, is_text(script, script_file), start)
     is_known = begins_with_item(content) or begins_journal(content)
     if is_known and opening.is_text != is_text(content):
         names = ("JSON", "text in the notation")
@@ -181,9 +188,9 @@ def accepted(opening: Opening, lines: List[bytes]) -> Iterator[Tuple[bytes, List
             yield line, answer
 
 
-def run(content: bytes, last: Optional[int] = None, script_file: Optional[str] = None) -> Ran:
+def run(content: bytes, last: Optional[int] = None, start: Start = PLAIN_START) -> Ran:
     """Runs a journal, up to a unit if one is given."""
-    opening, lines = divided(content, script_file)
+    opening, lines = divided(content, start)
     ran, count, is_first = Ran(opening), 0, True
     for item, answer in accepted(opening, lines):
         if not is_first:
@@ -201,11 +208,12 @@ def run(content: bytes, last: Optional[int] = None, script_file: Optional[str] =
     return ran
 
 
-def run_if_one(content: bytes, script_file: Optional[str] = None) -> Optional[Ran]:
+def run_if_one(content: bytes, start: Start = PLAIN_START) -> Optional[Ran]:
     """Runs what is given in place of a script, if it is a journal: so it is if it has its script in a file."""
-    if script_file is None and begins_with_item(content):
+    if start.script_file is None and begins_with_item(content):
         raise NoJournal(NO_SCRIPT)
-    return run(content, script_file=script_file) if script_file is not None or is_journal(content) else None
+    is_one = start.script_file is not None or is_journal(content, bool(start.checks))
+    return run(content, start=start) if is_one else None
 
 
 @dataclass(frozen=True)
@@ -215,12 +223,12 @@ class Words:
     journal: str
     until: Optional[int] = None
     lose_pasts: bool = False
-    script_file: Optional[str] = None
+    start: Start = PLAIN_START
 
 
 def words_of(arguments: List[str]) -> Optional[Words]:
     """The words in any order; None if they are wrong."""
-    left, script_file = without_script(arguments)
+    left, start = without_start(arguments)
     until, lose_pasts = None, False
     names: List[str] = []
     while left:
@@ -233,7 +241,7 @@ def words_of(arguments: List[str]) -> Optional[Words]:
             return None
         else:
             names.append(word)
-    return Words(names[0], until, lose_pasts, script_file) if len(names) == 1 else None
+    return Words(names[0], until, lose_pasts, start) if len(names) == 1 else None
 
 
 def main(arguments: List[str]) -> int:
@@ -272,10 +280,10 @@ def _main(word: str, usage: str, arguments: List[str], write: Any) -> int:
         return DONE
     words = words_of(arguments)
     if words is None or (words.lose_pasts and word == "journal"):
-        options = ["--until", SCRIPT_OPTION] + (["--lose-pasts"] if word == "snapshot" else [])
+        options = ["--until", *START_OPTIONS] + (["--lose-pasts"] if word == "snapshot" else [])
         return wrong_words(word, usage, arguments, options)
     try:
-        write(words, run(bytes_of(words.journal), words.until, words.script_file))
+        write(words, run(bytes_of(words.journal), words.until, words.start))
     except OSError as fault:
         print(f"{word}: {unread(fault, words.journal)}", file=sys.stderr)
         return WRONG_WORDS

@@ -5,14 +5,14 @@ from __future__ import annotations
 import sys
 
 from . import rulebase
-from .command import DONE, SCRIPT_OPTION, unknown_option, without_script, wrong_words
+from .command import DONE, START_OPTIONS, unknown_option, without_start, wrong_words
 from .notation.writer import script_text
 
-USAGE = """usage: hipac-tools print SCRIPT [--script FILE]
+USAGE = """usage: hipac-tools print SCRIPT [--script FILE] [--checked] [--signals FILE]
 
 Writes a script in the notation, a rule as `rule NAME on EVENT if .. do { .. }`: the one canonical text of it, without
 comments. SCRIPT is JSON or a text in the notation; `-` is standard input. It may be a journal; if its script is in a
-file, --script names that.
+file, --script names that, and it is run with --checked and --signals as its rule base was.
 The exit status is 0, or 2 where it is no script, or 3 where the words are wrong or the file can't be read."""
 
 
@@ -21,11 +21,11 @@ def main(arguments: list[str]) -> int:
     if arguments in (["--help"], ["-h"]):
         print(USAGE)
         return DONE
-    words, script_file = without_script(arguments)
+    words, start = without_start(arguments)
     if len(words) != 1 or unknown_option(words):
-        return wrong_words("print", USAGE, arguments, [SCRIPT_OPTION])
+        return wrong_words("print", USAGE, arguments, START_OPTIONS)
     try:
-        text = script_text(rulebase.read_file(words[0], script_file))
+        text = script_text(rulebase.read_file(words[0], start))
     except rulebase.Refused as fault:
         print(fault, file=sys.stderr)
         return fault.status

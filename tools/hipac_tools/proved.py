@@ -8,7 +8,7 @@ from __future__ import annotations
 import json
 import os
 from dataclasses import dataclass, field
-from typing import Any, Iterator
+from typing import Any, Iterator, Optional
 
 from . import language, program
 from .command import DONE
@@ -75,11 +75,13 @@ def program_path() -> str:
     return os.environ.get("HIPAC_CHECK") or str(program.REPOSITORY / PROGRAM)
 
 
-def proved_of(value: Any) -> Proved | str:
-    """What the program says of an accepted script with this JSON value; or how it failed."""
-    ended = program.run(json.dumps(value).encode("utf-8"), [], program_path())
+def proved_of(value: Any, signals: Optional[str] = None) -> Proved | str:
+    """What the program says of an accepted script with this JSON value, by the signatures of a file if one is named; or
+    how it failed."""
+    words = [] if signals is None else ["--signals", signals]
+    ended = program.run(json.dumps(value).encode("utf-8"), words, program_path())
     if ended.status != DONE:
-        return f"{PROGRAM} ended with status {ended.status}"
+        return f"{PROGRAM} ended with status {ended.status}" + (f": {ended.errors.strip()}" if ended.errors else "")
     lines = [line.split() for line in ended.output.splitlines()]
     bodies = list(unit_paths(value))
     return Proved({line[0]: " ".join(line[1:]) for line in lines[:3]},

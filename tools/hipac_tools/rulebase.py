@@ -139,10 +139,10 @@ def _told_at(text: str, offset: int) -> str:
     return f"line {line}:{column}"
 
 
-def read_file(name: str, script_file: str | None = None) -> RuleBase:
+def read_file(name: str, start: command.Start = command.PLAIN_START) -> RuleBase:
     """The script in a file, or `Refused`; of a journal the script of its accepted lines, which may have its own script
     in another file. `-` is standard input."""
-    return read_text(name, text_of(name, script_file))
+    return read_text(name, text_of(name, start))
 
 
 def read_text(name: str, text: str) -> RuleBase:
@@ -153,12 +153,12 @@ def read_text(name: str, text: str) -> RuleBase:
         raise Refused(f"{command.shown(name)}: {fault}") from fault
 
 
-def text_of(name: str, script_file: str | None = None) -> str:
+def text_of(name: str, start: command.Start = command.PLAIN_START) -> str:
     """The text of the script in a file, or `Refused`."""
     shown = command.shown(name)
     try:
         content = command.bytes_of(name)
-        ran = journal.run_if_one(content, script_file)
+        ran = journal.run_if_one(content, start)
         if ran is not None:
             return ran.script_text
         if len(content) > command.MOST_BYTES:

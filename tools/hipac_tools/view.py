@@ -14,22 +14,22 @@ from typing import Any, Dict, List, Optional
 from . import graph
 from .account import Account, NoAccount, account_of
 from .command import (
-    DONE, MOST_REPORT_BYTES, REFUSED, SCRIPT_OPTION, bytes_of, shown, unknown_option, unread, without_script,
-    write_file, wrong_words,
+    DONE, MOST_REPORT_BYTES, PLAIN_START, REFUSED, START_OPTIONS, Start, bytes_of, shown, unknown_option, unread,
+    without_start, write_file, wrong_words,
 )
 from .model import page_model
 from .notation.writer import rule_text
 
-USAGE = """usage: hipac-tools view SCRIPT [REPORT] [--out FILE.html] [--script FILE]
+USAGE = """usage: hipac-tools view SCRIPT [REPORT] [--out FILE.html] [--script FILE] [--checked] [--signals FILE]
 
 Makes a page that shows the script's units, the tree of what each did, rules, objects and their histories. REPORT is one
 that ./hipac wrote with --tree; where it isn't given the program is run. The page goes to standard output or to FILE.
 For SCRIPT or REPORT `-` is standard input. Without REPORT, SCRIPT may be a journal; if its script is in a file,
---script names that.
+--script names that, and it is run with --checked and --signals as its rule base was.
 The exit status is 0, 2 for a script or a report that can't be shown, 3 for wrong words, 4 where the program failed, 5
 for a report that isn't the one that following the script gives."""
 
-OPTIONS = ("--out", SCRIPT_OPTION)
+OPTIONS = ("--out", *START_OPTIONS)
 
 PAGE = Path(__file__).with_name("page")
 CODE = ("data.js", "tree.js", "panels.js", "search.js", "overview.js", "main.js")
@@ -37,13 +37,13 @@ CODE = ("data.js", "tree.js", "panels.js", "search.js", "overview.js", "main.js"
 
 @dataclass(frozen=True)
 class Words:
-    """The command line: the script, the report if one is given, the file for the page, and that of a journal's
-    script."""
+    """The command line: the script, the report if one is given, the file for the page, and how a journal's rule base
+    was started."""
 
     script: str
     report: Optional[str] = None
     out: Optional[str] = None
-    script_file: Optional[str] = None
+    start: Start = PLAIN_START
 
 
 def main(arguments: List[str]) -> int:
@@ -69,7 +69,7 @@ def main(arguments: List[str]) -> int:
 
 def _words(arguments: List[str]) -> Optional[Words]:
     """The words in any order; None if they are wrong."""
-    names, script_file = without_script(arguments)
+    names, start = without_start(arguments)
     out = None
     if "--out" in names:
         place = names.index("--out")
@@ -77,15 +77,15 @@ def _words(arguments: List[str]) -> Optional[Words]:
             return None
         out = names[place + 1]
         del names[place:place + 2]
-    if len(names) not in (1, 2) or unknown_option(names) or len(names) == 2 and script_file is not None:
+    if len(names) not in (1, 2) or unknown_option(names) or len(names) == 2 and start != PLAIN_START:
         return None
-    return Words(names[0], names[1] if len(names) == 2 else None, out, script_file)
+    return Words(names[0], names[1] if len(names) == 2 else None, out, start)
 
 
 def page_of(words: Words) -> bytes:
     report_text = None if words.report is None else _report_text(words.report)
     name = Path(shown(words.script)).name
-    account = account_of(bytes_of(words.script), report_text, script_file=words.script_file)
+    account = account_of(bytes_of(words.script), report_text, start=words.start)
     return page_text(account, name).encode("utf-8")
 
 

@@ -11,7 +11,7 @@ from . import fates, faulting, reasons
 from .account import Account, NoAccount, account_of
 from .answers import RuleAnswer, Silence, rule_answer, status_by_report
 from .command import (
-    DONE, REFUSED, SCRIPT_OPTION, WRONG_WORDS, bytes_of, unknown_option, without_script, wrong_words,
+    DONE, REFUSED, START_OPTIONS, WRONG_WORDS, bytes_of, unknown_option, without_start, wrong_words,
 )
 from .course import STEPS
 from .language import DETACHED
@@ -24,12 +24,12 @@ from .reasons import STATUS_WORDS, Teller
 from .report import Act, Fire, Sub, Transaction, Unit, walk
 from .wording import ALL, Most, SOME, some_of, times
 
-USAGE = """usage: hipac-tools why SCRIPT UNIT [RULE] [--all] [--script FILE]
+USAGE = """usage: hipac-tools why SCRIPT UNIT [RULE] [--all] [--script FILE] [--checked] [--signals FILE]
 
 Says why the unit of that number ended as it did: what aborted, by which cause, and what led there. With a rule it says
 what the rule did in that unit and why, or why it wasn't triggered. Units are numbered from 1, as in the report; `-` is
 standard input. Of long lists only the first things are told; with --all it is everything. SCRIPT may be a journal; if
-its script is in a file, --script names that.
+its script is in a file, --script names that, and it is run with --checked and --signals as its rule base was.
 The exit status is 0, 2 for a script that is refused, 3 for wrong words, 4 where the program failed, 5 where the program
 gives another report than following the script does."""
 
@@ -46,15 +46,15 @@ def main(arguments: List[str]) -> int:
         print(USAGE)
         return DONE
     most = ALL if EVERYTHING in arguments else SOME
-    words, script_file = without_script(word for word in arguments if word != EVERYTHING)
+    words, start = without_start(word for word in arguments if word != EVERYTHING)
     if len(words) not in (2, 3) or unknown_option(words):
-        return wrong_words("why", USAGE, arguments, [EVERYTHING, SCRIPT_OPTION])
+        return wrong_words("why", USAGE, arguments, [EVERYTHING, *START_OPTIONS])
     if not words[1].isdigit():
         print(f"why: {words[1]} is no unit's number; the words are SCRIPT UNIT [RULE]", file=sys.stderr)
         return WRONG_WORDS
     name, number = words[0], int(words[1])
     try:
-        account = account_of(bytes_of(name), watch=words[2:], script_file=script_file)
+        account = account_of(bytes_of(name), watch=words[2:], start=start)
         text = explained(account, number, words[2] if len(words) == 3 else None, most)
     except (OSError, NoAccount) as fault:
         print(f"why: {name}: {fault}", file=sys.stderr)

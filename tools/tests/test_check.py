@@ -348,7 +348,7 @@ class CommandLine(InDirectory):
     def test_no_words(self) -> None:
         status, output, errors = run_word(check.main)
         self.assertEqual((status, output), (3, ""))
-        self.assertIn("usage: hipac-tools check [--live] [--proved] SCRIPT", errors)
+        self.assertIn("usage: hipac-tools check [--live] [--proved] [--signals FILE] SCRIPT", errors)
 
     def test_an_unknown_option(self) -> None:
         self.assertEqual(run_word(check.main, "--fast")[0], 3)
@@ -356,7 +356,7 @@ class CommandLine(InDirectory):
     def test_help(self) -> None:
         status, output, _ = run_word(check.main, "--help")
         self.assertEqual(status, 0)
-        self.assertIn("usage: hipac-tools check [--live] [--proved] SCRIPT", output)
+        self.assertIn("usage: hipac-tools check [--live] [--proved] [--signals FILE] SCRIPT", output)
 
     def test_a_file_that_is_not_there(self) -> None:
         status, output, errors = run_word(check.main, str(self.directory / "none.json"))

@@ -11,6 +11,7 @@ import unittest
 from pathlib import Path
 
 from hipac_tools import command, journal, program
+from hipac_tools.command import Start
 
 SCRIPT = {"version": 2, "classes": [["item", [["stock", "int"]]]], "rules": [
     ["tick", ["every", 5, 5], "immediate", [], "immediate", [["emit", ["time", 0]]]],
@@ -128,7 +129,7 @@ class TextJournalTest(unittest.TestCase):
         for given, file, script in ((lines(RULES_LINE, *TEXTS), None, RULES_LINE + "\n"),
                                     (lines(RULES_LINE, *TEXTS), self.rules, RULES), (lines(*TEXTS), self.rules, RULES)):
             with self.subTest(file=file):
-                ran = journal.run(given, script_file=file and str(file))
+                ran = journal.run(given, start=Start(file and str(file)))
                 self.assertEqual(ran.script_text, script + lines(*TAKEN).decode())
                 reported = program.run_script(ran.script_text.encode(), ["--tree"])
                 self.assertEqual(reported.output, ran.report_text)
@@ -138,10 +139,10 @@ class TextJournalTest(unittest.TestCase):
 
     def test_a_script_of_json_in_a_file(self):
         given = content(LINES[1:])
-        ran = journal.run(given, script_file=str(self.json))
+        ran = journal.run(given, start=Start(str(self.json)))
         self.assertEqual(items_of(ran), SCRIPT["items"] + ACCEPTED)
         self.assertEqual(ran.report, journal.run(content()).report)
-        self.assertEqual(journal.run(content(), script_file=str(self.json)).report, ran.report)
+        self.assertEqual(journal.run(content(), start=Start(str(self.json))).report, ran.report)
 
     def test_the_other_words(self):
         """They say of it what they say of its script, at the places of the file."""
@@ -157,6 +158,25 @@ class TextJournalTest(unittest.TestCase):
                 self.assertEqual(before.stdout, ended.stdout)
         self.assertIn(b"(at line 18:15)", hipac_tools("why", "-", "6", *option, given=lines(
             *TEXTS[:1], "clock 16", "transaction { abort }")).stdout)
+
+    def test_a_checked_journal(self):
+        """What the rule base has refused doesn't run again."""
+        given = lines(RULES_LINE, 'transaction { emit 1 + "a" }', "transaction { signal go(1) }",
+                      "transaction { emit 7 }")
+        taken = lines(RULES_LINE, "transaction { signal go(1) }", "transaction { emit 7 }").decode()
+        self.assertEqual(journal.run(given, start=Start(is_checked=True)).script_text, taken)
+        self.assertEqual(journal.run(given).script_text, given.decode())
+        signals = self.rules.with_name("go.json")
+        signals.write_text('[["go", ["text"]]]', encoding="utf-8")
+        options = ["--script", str(self.rules), "--signals", str(signals)]
+        ended = hipac_tools("journal", "-", *options, given=given.partition(b"\n")[2])
+        self.assertEqual(ended.stdout.decode(), RULES + "transaction { emit 7 }\n")
+        for words in (["why", "-", "2"], ["graph", "-"], ["faults", "-"], ["print", "-"], ["view", "-"]):
+            with self.subTest(words):
+                ended = hipac_tools(*words, "--checked", given=given)
+                self.assertEqual((ended.returncode, ended.stderr), (0, b""))
+                self.assertEqual(ended.stdout, hipac_tools(*words, given=taken.encode()).stdout)
+        self.assertEqual(hipac_tools("snapshot", "-", "--checked", given=given).returncode, 0)
 
     def test_a_snapshot(self):
         for given, option in ((lines(RULES_LINE, *TEXTS), []), (lines(*TEXTS), ["--script", str(self.rules)])):

@@ -62,6 +62,17 @@ class ProvedFindings(unittest.TestCase):
             told = proved.proved_of(json.loads(SCRIPT))
         self.assertEqual(told, "hipac-check ended with status 4")
 
+    def test_a_file_of_signals_is_handed_on(self) -> None:
+        ended = program.Ended(3, "", "signals refused S2 /0\n")
+        with mock.patch.object(program, "run", return_value=ended) as run:
+            told = proved.proved_of(json.loads(SCRIPT), "bank.signals")
+        self.assertEqual(run.call_args.args[1], ["--signals", "bank.signals"])
+        self.assertEqual(told, "hipac-check ended with status 3: signals refused S2 /0")
+
+    def test_the_words_name_a_file_of_signals(self) -> None:
+        self.assertEqual(check.without_signals(["--live", "--signals", "a", "b"]), (["--live", "b"], "a"))
+        self.assertEqual(check.without_signals(["--proved", "b"]), (["--proved", "b"], None))
+
 
 class Depths(unittest.TestCase):
     def test_each_verdict_is_told(self) -> None:

@@ -80,6 +80,8 @@ class Base:
       a minute or two. What is said on standard error is logged as warnings of "hipac".
     - `workers`: the program's, 1 to 64. The answers don't change, and the library works in the caller's thread alone.
     - `tree`: whether the units have trees.
+    - `checked`: whether what could ever end with A3, A6 or A7 is refused, the script too (`Refused`, S8).
+    - `signals`, of the program alone: the path of a file that declares signals; then the rule base is checked.
     - `timeout`, of the program alone: so many seconds a line and its answer may take. If they take longer, the program
       is killed, and `TimedOut` is raised. The state is lost, unless there is a journal. Starting and replaying have no
       limit.
@@ -89,7 +91,8 @@ class Base:
 
     def __init__(self, script: Optional[Script] = None, *, rules: Optional[Rules] = None, by: str = "library",
                  library: Union[str, "os.PathLike[str]", None] = None, program: Optional[Sequence[str]] = None,
-                 workers: Optional[int] = None, tree: bool = False, timeout: Optional[float] = None):
+                 workers: Optional[int] = None, tree: bool = False, checked: bool = False,
+                 signals: Union[str, "os.PathLike[str]", None] = None, timeout: Optional[float] = None):
         lines = lines_of(script, rules)
         if lines is None:
             raise TypeError("a rule base is given a script, or rules")
@@ -97,8 +100,8 @@ class Base:
             raise ValueError(f"there are 1 to 64 workers, and not {workers}")
         if by not in WAYS:
             raise ValueError(f"a rule base is asked by {' or '.join(WAYS)}, and not by {by!r}")
-        if by == "library" and (program is not None or timeout is not None):
-            raise TypeError("program= and timeout= go with by=\"program\"")
+        if by == "library" and (program is not None or signals is not None or timeout is not None):
+            raise TypeError("program=, signals= and timeout= go with by=\"program\"")
         if by == "program" and library is not None:
             raise TypeError("library= goes with by=\"library\"")
         opening = lines.opening()
@@ -114,10 +117,12 @@ class Base:
         self.last_replayed: Union[Answer, Refused, None] = None
         """The answer to the last of these lines: perhaps nobody has had it yet."""
         if by == "library":
-            self._way: Way = Library(library, lines.is_text, tree)
+            self._way: Way = Library(library, lines.is_text, tree, checked)
         else:
-            words = [*(["--workers", str(workers)] if workers else []), *(["--tree"] if tree else []), *lines.words]
-            self._way = Program([*(program or PROGRAM), *words], lines.is_sent)
+            flags = [word for word, is_set in (("--tree", tree), ("--checked", checked)) if is_set]
+            values = {"--workers": workers, "--signals": signals}
+            words = [it for word, value in values.items() if value is not None for it in (word, str(value))]
+            self._way = Program([*(program or PROGRAM), *words, *flags, *lines.words], lines.is_sent)
         try:
             with self._way.turn:
                 self.opening: List[Unit] = self._exchange(opening).units

@@ -12,7 +12,7 @@ FAULTS = {"F1": "no memory", "F2": "a read failed", "F3": "a write failed"}
 
 REFUSALS = {
     "S1": "no JSON text", "S2": "a wrong shape", "S3": "no whole number of 64 bits", "S4": "an unknown or doubled name",
-    "S5": "over a limit", "S6": "an unknown version",
+    "S5": "over a limit", "S6": "an unknown version", "S8": "what may end with A3, A6 or A7",
 }
 """What the code of a refusal says."""
 
@@ -30,6 +30,8 @@ class Refused(HipacError):
     `code` is S1 to S6; S5 has a `limit`, the word of the limit. Of JSON, S2, S3 and S4 have a `path` into the line's
     value, and `part` is what stands there, if the path leads anywhere. Of a text, S1 to S4 have a `place`, the line and
     the column in the text that the call was given, both from 1, and `part` is what that line goes on with there.
+    A checked rule base has S8, too, whose `limit` is `kinds` or `depth`, or `kinds unit N` with a path in the body of
+    that unit of the script; `path` is that of the value, also of a text.
     """
 
     def __init__(self, code: str, path: Optional[str] = None, limit: Optional[str] = None, part: Any = None,

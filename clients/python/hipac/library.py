@@ -20,7 +20,7 @@ from .ways import End, Way
 _OK, _REFUSED, _MEMORY, _CLOSED, _UNKNOWN = range(5)
 
 # The options of hipac_open.
-_TREE, _TEXT = 1, 2
+_TREE, _TEXT, _CHECKED = 1, 2, 4
 
 # The version of the library's functions that this module calls.
 _VERSION = 1
@@ -119,7 +119,8 @@ class Library(Way):
     has_get = True
     name = "the library"
 
-    def __init__(self, path: Union[str, "os.PathLike[str]", None], is_text: bool, trees: bool):
+    def __init__(self, path: Union[str, "os.PathLike[str]", None], is_text: bool, trees: bool,
+                 checked: bool):
         self._functions = _loaded(find_library(path))
         self._handle, self._length = _Handle(), ctypes.c_size_t()
         # A slice of it is a copy of the bytes.
@@ -127,7 +128,7 @@ class Library(Way):
         self._at_handle, self._at_answer = ctypes.byref(self._handle), ctypes.byref(self._answer)
         self._at_length = ctypes.byref(self._length)
         self._line = self._functions.hipac_line
-        self._options = (_TREE if trees else 0) + (_TEXT if is_text else 0)
+        self._options = (_TREE if trees else 0) + (_TEXT if is_text else 0) + (_CHECKED if checked else 0)
         self._own = _OwnThread()
         self._end = End(0)
         self.turn = self._own

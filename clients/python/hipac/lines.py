@@ -75,8 +75,9 @@ class JsonLine(Line):
         return moves[-1] if moves else None
 
     def explain(self, refused: Refused) -> Refused:
-        part = None if refused.path is None else at_path(self.value, refused.path)
-        return Refused(refused.code, refused.path, refused.limit, part)
+        path = refused.path
+        part = at_path(self.value, path) if path is not None and refused.limit in (None, "kinds") else None
+        return Refused(refused.code, path, refused.limit, part)
 
 
 class OpeningJson(JsonLine):

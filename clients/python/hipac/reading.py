@@ -28,6 +28,8 @@ _REFUSED = re.compile(rf"refused (?:(?P<bare>S1|S6)|(?P<pathed>S[234]) (?P<path>
 _REFUSED_TEXT = re.compile(
     rf"refused (?:(?P<bare>S6)|(?P<placed>S[1-4]) (?P<line>{_COUNT}):(?P<column>{_COUNT})|{_OVER})")
 
+_CHECKED = re.compile(rf"refused (S8) (?:(kinds(?: unit {_COUNT})?) (/\S*)|(depth))")
+
 _UNIT = re.compile(rf"unit ({_COUNT})(?: time ({_COUNT}))? ({_END})")
 _DETACHED = re.compile(rf"(separate|dependent|exclusive) ({_NAME}) ({_END})")
 _EMIT = re.compile(rf"emit ({_VALUE})")
@@ -132,6 +134,9 @@ class Reader:
 
     def _refused(self, line: str) -> Optional[Refused]:
         """A refusal as it is written: its place is that in the line that was sent."""
+        checked = _CHECKED.fullmatch(line)
+        if checked:
+            return Refused(checked[1], checked[3], checked[2] or checked[4])
         found = (_REFUSED_TEXT if self._is_text else _REFUSED).fullmatch(line)
         if found is None:
             return None

@@ -3,17 +3,17 @@
 //! `include/hipac.h` says what each function does, and what its caller owes.
 #![tactic(auto)]
 
-ghost use Rattle.std.specs.Prelude.{◌≡◌, IfOk};
-ghost use Rattle.std.specs.Option.{option_map};
-ghost use Rattle.hp_lines.specs.Live as L;
-ghost use Rattle.hp_live.specs.Kept.{manner};
+ghost use Rattle.std.specs.Prelude.{◌≡◌, IfOk, None};
+ghost use Rattle.hp_live.specs.Kept.{declared_of};
 ghost use Rattle.hp_live.specs.Sessions.{Gave, GaveBy, in_json, show_line, get_line};
-ghost use Rattle.hipac_c.specs.Exports.{Opened, Answered, Again, Told, Nothing, manner_by, code};
+ghost use Rattle.hipac_c.specs.Exports.{Opened, OpenedBy, Answered, Again, Told, Nothing, ChecksBy, has, code};
 
 mod handle;
 mod loose;
 
 use handle::Handle;
+use hp_analysis::Declaration;
+use hp_checked::declaration_for;
 use hp_live::{Options, Outcome, Session};
 use std::alloc::{AllocError, Global};
 use std::ptr::null;
@@ -33,6 +33,18 @@ const CLOSED: i32 = 3;
 /// An option isn't known.
 const UNKNOWN: i32 = 4;
 
+/// Answers also show what each transaction did.
+const TREE: u32 = 1;
+
+/// The script and the lines are text in the notation.
+const TEXT: u32 = 2;
+
+/// What could ever end with `A3`, `A6` or `A7` is refused.
+const CHECKED: u32 = 4;
+
+/// The sum of all options.
+const MOST_OPTIONS: u32 = 7;
+
 /// The version of these functions.
 const VERSION: u32 = 1;
 
@@ -47,29 +59,27 @@ fn status_of(outcome: Outcome) -> i32
     }
 }
 
-/// Options by their number, if it is known.
-fn options_by(number: u32) -> Option<Options>
-    ensures { option_map manner result ≡ manner_by number }
+/// Whether one of the options is set.
+fn has(options: u32, option: u32) -> bool
+    ensures { result ≡ has options option }
 {
-    match number {
-        0 => Some(options_for(false, false)),
-        1 => Some(options_for(true, false)),
-        2 => Some(options_for(false, true)),
-        3 => Some(options_for(true, true)),
-        _ => None,
-    }
+    options & option != 0
 }
 
-/// Options without workers.
-fn options_for(tree: bool, text: bool) -> Options
-    ensures tree { result.tree ≡ tree }
-    ensures text { result.text ≡ text }
+/// A declaration for a script, if its base is checked.
+fn checks_for(
+    alloc: Global,
+    script: &[u8],
+    is_text: bool,
+    checked: bool,
+) -> Result<Option<Declaration>, AllocError>
+    ensures { IfOk result (λ checks. ChecksBy checked (declared_of checks)) }
 {
-    Options {
-        workers: 1,
-        tree,
-        text,
+    if !checked {
+        return Ok(None);
     }
+    let given = Declaration::new(alloc);
+    Ok(Some(declaration_for(alloc, script, is_text, given)?))
 }
 
 /// Says where there is no answer.
@@ -125,16 +135,16 @@ pub extern "C" fn hipac_open(
 {
     let _before = handle.take(alloc);
     tell_nothing(answer, length);
-    match options_by(options) {
-        Some(options) => match open_boxed(alloc, script, options) {
-            Ok((base, outcome)) => {
-                let status = tell(&base, Ok(outcome), answer, length);
-                handle.put(alloc, base);
-                status
-            }
-            Err(_) => MEMORY,
-        },
-        None => UNKNOWN,
+    if MOST_OPTIONS < options {
+        return UNKNOWN;
+    }
+    match open_boxed(alloc, script, options) {
+        Ok((base, outcome)) => {
+            let status = tell(&base, Ok(outcome), answer, length);
+            handle.put(alloc, base);
+            status
+        }
+        Err(_) => MEMORY,
     }
 }
 
@@ -142,11 +152,18 @@ pub extern "C" fn hipac_open(
 fn open_boxed(
     alloc: Global,
     script: &[u8],
-    options: Options,
+    options: u32,
 ) -> Result<(Box<Session>, Outcome), AllocError>
-    ensures { IfOk result (λ opened. Gave opened.0.value opened.1 (manner options) L.unopened script.now) }
+    ensures { IfOk result (λ opened. OpenedBy script.now options opened.0.value opened.1) }
 {
-    let (base, outcome) = Session::open(alloc, script, options)?;
+    let text = has(options, TEXT);
+    let checks = checks_for(alloc, script, text, has(options, CHECKED))?;
+    let options = Options {
+        workers: 1,
+        tree: has(options, TREE),
+        text,
+    };
+    let (base, outcome) = Session::open(alloc, script, options, checks)?;
     Ok((Box::new(alloc, base)?, outcome))
 }
 

@@ -5,7 +5,6 @@ ghost use Rattle.std.specs.List.{slice_index_or};
 ghost use Rattle.hp_model.specs.Rules.{no_rule};
 ghost use Rattle.hp_model.specs.Report.{line};
 ghost use Rattle.hp_model.specs.Refusals.{to_member, to_item};
-ghost use Rattle.hp_model.specs.Output.{path_text};
 ghost use Rattle.hp_rule.specs.Statements.{rule};
 ghost use Rattle.hp_report.specs.Text.{Gains};
 ghost use Rattle.hp_analysis.specs.FoundKinds.{kind_finding, kind_findings};
@@ -15,52 +14,63 @@ ghost use Rattle.hp_analysis.specs.Openings as openings;
 ghost use Rattle.hp_analysis.specs.Kinded.{finding};
 ghost use Rattle.hp_analysis.specs.Signalled.{links};
 ghost use Rattle.hp_analysis.specs.Checking as model;
+ghost use Rattle.hipac_check.specs.Spots.{shown, spot_text};
 ghost use Rattle.hipac_check.specs.Words.{idle_word};
 
-use crate::shown::{Path, Why};
+use crate::shown::Why;
+use crate::spots::{Spot, Spots};
 use hp_analysis::{Finding, Graph, KindFinding, Link, Opening, has, opening_of};
-use hp_rule::Rule;
+use hp_rule::{Member, PathStep, Rule};
 use std::alloc::{AllocError, Global};
 use std::fmt::Write;
 
 /// Adds the line of a finding of kinds in a unit.
-fn put_in_unit(out: &mut String, number: usize, found: &Finding) -> Result<(), AllocError>
+fn put_in_unit(
+    out: &mut String,
+    spots: &Spots<'_>,
+    number: usize,
+    found: &Finding,
+) -> Result<(), AllocError>
     ensures { OnOk result (Gains out.old out.new
-        (model.found_line (record { unit = Some number; finding = finding found.now }))) }
+        (model.found_line (shown spots.now) (record { unit = Some number; finding = finding found.now }))) }
 {
-    let path = Path(found.path.as_slice());
+    let at = spots.in_unit(number, found.path.as_slice());
     let why = Why(found.reason);
-    writeln!(out, "kind unit {number} {path} {why}")?;
+    writeln!(out, "kind unit {number} {at} {why}")?;
     Ok(())
 }
 
 /// Adds the line of a finding of kinds in a rule.
-fn put_in_rule(out: &mut String, found: &Finding) -> Result<(), AllocError>
+fn put_in_rule(out: &mut String, spots: &Spots<'_>, found: &Finding) -> Result<(), AllocError>
     ensures { OnOk result (Gains out.old out.new
-        (model.found_line (record { unit = None; finding = finding found.now }))) }
+        (model.found_line (shown spots.now) (record { unit = None; finding = finding found.now }))) }
 {
-    let path = Path(found.path.as_slice());
+    let at = spots.at(found.path.as_slice());
     let why = Why(found.reason);
-    writeln!(out, "kind {path} {why}")?;
+    writeln!(out, "kind {at} {why}")?;
     Ok(())
 }
 
 /// Adds the line of a finding of kinds.
-fn put_found(out: &mut String, found: &KindFinding) -> Result<(), AllocError>
-    ensures { OnOk result (Gains out.old out.new (model.found_line (kind_finding found.now))) }
+fn put_found(out: &mut String, spots: &Spots<'_>, found: &KindFinding) -> Result<(), AllocError>
+    ensures { OnOk result (Gains out.old out.new (model.found_line (shown spots.now) (kind_finding found.now))) }
 {
     match found.unit {
-        Some(number) => put_in_unit(out, number, &found.finding),
-        None => put_in_rule(out, &found.finding),
+        Some(number) => put_in_unit(out, spots, number, &found.finding),
+        None => put_in_rule(out, spots, &found.finding),
     }
 }
 
 /// Adds a line for each finding of kinds.
-pub(crate) fn put_kind_lines(out: &mut String, all: &[KindFinding]) -> Result<(), AllocError>
-    ensures { OnOk result (Gains out.old out.new (model.kind_lines (kind_findings all.now))) }
+pub(crate) fn put_kind_lines(
+    out: &mut String,
+    spots: &Spots<'_>,
+    all: &[KindFinding],
+) -> Result<(), AllocError>
+    ensures { OnOk result (Gains out.old out.new (model.kind_lines (shown spots.now) (kind_findings all.now))) }
 {
     for found in all {
-        put_found(out, found)?;
+        put_found(out, spots, found)?;
     }
     Ok(())
 }
@@ -75,47 +85,51 @@ fn name_of(rules: &[Rule], number: usize) -> &str
     }
 }
 
-/// Adds a line of a word, the path of a rule, and its name.
-fn put_rule(out: &mut String, word: &str, number: usize, name: &str) -> Result<(), AllocError>
-    ensures { OnOk result (Gains out.old out.new (line 0 (word.now
-        ∷ path_text (to_member (codes "rules") ∷ to_item number ∷ []) ∷ name.now ∷ []))) }
+/// Adds a line of a word, a spot and a rule's name.
+fn put_named(out: &mut String, word: &str, at: Spot<'_>, name: &str) -> Result<(), AllocError>
+    ensures { OnOk result (Gains out.old out.new (line 0 (word.now ∷ spot_text at.entry ∷ name.now ∷ []))) }
 {
-    writeln!(out, "{word} /rules/{number} {name}")?;
+    writeln!(out, "{word} {at} {name}")?;
     Ok(())
 }
 
-/// Adds a line of a word, the path of a part of a rule, and the rule's name.
-fn put_part(
+/// Adds a line of a word, the place of a rule, and its name.
+fn put_rule(
     out: &mut String,
+    spots: &Spots<'_>,
     word: &str,
     number: usize,
-    part: u8,
     name: &str,
 ) -> Result<(), AllocError>
     ensures { OnOk result (Gains out.old out.new (line 0 (word.now
-        ∷ path_text (to_member (codes "rules") ∷ to_item number ∷ to_item part ∷ []) ∷ name.now ∷ []))) }
+        ∷ (shown spots.now).at (to_member (codes "rules") ∷ to_item number ∷ []) ∷ name.now ∷ []))) }
 {
-    writeln!(out, "{word} /rules/{number}/{part} {name}")?;
-    Ok(())
+    let steps = [PathStep::Member(Member::Rules), PathStep::Item(number)];
+    put_named(out, word, spots.at(&steps), name)
 }
 
 /// Adds the line of a rule of a chain.
-fn put_link(out: &mut String, rules: &[Rule], number: usize) -> Result<(), AllocError>
-    ensures { OnOk result (Gains out.old out.new (model.link_line (map rule rules.now) number)) }
+fn put_link(
+    out: &mut String,
+    spots: &Spots<'_>,
+    rules: &[Rule],
+    number: usize,
+) -> Result<(), AllocError>
+    ensures { OnOk result (Gains out.old out.new (model.link_line (shown spots.now) (map rule rules.now) number)) }
 {
     let name = name_of(rules, number);
-    put_rule(out, "chain", number, name)
+    put_rule(out, spots, "chain", number, name)
 }
 
 /// Adds the line of what links two rules of a chain, if there is a link.
-fn put_by(out: &mut String, found: &Option<Link>) -> Result<(), AllocError>
-    ensures { OnOk result (Gains out.old out.new (model.by_line (links found.now))) }
+fn put_by(out: &mut String, spots: &Spots<'_>, found: &Option<Link>) -> Result<(), AllocError>
+    ensures { OnOk result (Gains out.old out.new (model.by_line (shown spots.now) (links found.now))) }
 {
     let Some(link) = found else {
         return Ok(());
     };
-    let by = Path(link.by.as_slice());
-    let event = Path(link.event.as_slice());
+    let by = spots.at(link.by.as_slice());
+    let event = spots.at(link.event.as_slice());
     writeln!(out, "by {by} {event}")?;
     Ok(())
 }
@@ -124,16 +138,18 @@ fn put_by(out: &mut String, found: &Option<Link>) -> Result<(), AllocError>
 fn put_next(
     alloc: Global,
     out: &mut String,
+    spots: &Spots<'_>,
     graph: &Graph<'_>,
     number: usize,
     later: &[usize],
 ) -> Result<(), AllocError>
-    ensures { OnOk result (Gains out.old out.new (model.next_line (seen graph.now.triggers) number later.now)) }
+    ensures { OnOk result (Gains out.old out.new
+        (model.next_line (shown spots.now) (seen graph.now.triggers) number later.now)) }
 {
     match later {
         [next, ..] => {
             let link = graph.link(alloc, number, *next)?;
-            put_by(out, &link)
+            put_by(out, spots, &link)
         }
         [] => Ok(()),
     }
@@ -143,23 +159,24 @@ fn put_next(
 pub(crate) fn put_chain(
     alloc: Global,
     out: &mut String,
+    spots: &Spots<'_>,
     rules: &[Rule],
     graph: &Graph<'_>,
     chain: &[usize],
 ) -> Result<(), AllocError>
     ensures { OnOk result (Gains out.old out.new
-        (model.chain_lines (map rule rules.now) (seen graph.now.triggers) chain.now)) }
+        (model.chain_lines (shown spots.now) (map rule rules.now) (seen graph.now.triggers) chain.now)) }
 {
     let [n, later @ ..] = chain else {
         return Ok(());
     };
-    put_link(out, rules, *n)?;
-    put_next(alloc, out, graph, *n, later)?;
-    put_chain(alloc, out, rules, graph, later)
+    put_link(out, spots, rules, *n)?;
+    put_next(alloc, out, spots, graph, *n, later)?;
+    put_chain(alloc, out, spots, rules, graph, later)
 }
 
 /// The part of a rule that may fail, by its place in the rule.
-fn part_of(opening: Opening) -> u8
+fn part_of(opening: Opening) -> usize
     ensures { result ≡ model.part_of (openings.opening opening) }
 {
     match opening {
@@ -169,24 +186,37 @@ fn part_of(opening: Opening) -> u8
 }
 
 /// Adds the line of a guard, if it has an opening.
-fn put_opening(out: &mut String, number: usize, guard: &Rule) -> Result<(), AllocError>
+fn put_opening(
+    out: &mut String,
+    spots: &Spots<'_>,
+    number: usize,
+    guard: &Rule,
+) -> Result<(), AllocError>
     ensures { OnOk result (Gains out.old out.new
-        (model.opening_line number (rule guard.now) (guards.opening (rule guard.now)))) }
+        (model.opening_line (shown spots.now) number (rule guard.now) (guards.opening (rule guard.now)))) }
 {
     let Some(opening) = opening_of(guard) else {
         return Ok(());
     };
-    let part = part_of(opening);
-    let name = guard.name.as_str();
-    put_part(out, "open", number, part, name)
+    let part = PathStep::Item(part_of(opening));
+    let steps = [
+        PathStep::Member(Member::Rules),
+        PathStep::Item(number),
+        part,
+    ];
+    put_named(out, "open", spots.at(&steps), guard.name.as_str())
 }
 
 /// Adds a line for each guard with an opening.
-pub(crate) fn put_openings(out: &mut String, rules: &[Rule]) -> Result<(), AllocError>
-    ensures { OnOk result (Gains out.old out.new (model.opening_lines 0 (map rule rules.now))) }
+pub(crate) fn put_openings(
+    out: &mut String,
+    spots: &Spots<'_>,
+    rules: &[Rule],
+) -> Result<(), AllocError>
+    ensures { OnOk result (Gains out.old out.new (model.opening_lines (shown spots.now) 0 (map rule rules.now))) }
 {
     for (n, rule) in rules.iter().enumerate() {
-        put_opening(out, n, rule)?;
+        put_opening(out, spots, n, rule)?;
     }
     Ok(())
 }
@@ -207,34 +237,34 @@ fn idle_word(present: &[bool], reached: &[bool], number: usize) -> Option<&'stat
 /// Adds the line of a rule that is never installed, or never reached.
 fn put_idle(
     out: &mut String,
+    spots: &Spots<'_>,
     present: &[bool],
     reached: &[bool],
     number: usize,
     idle: &Rule,
 ) -> Result<(), AllocError>
     ensures { OnOk result (Gains out.old out.new
-        (model.idle_line present.now reached.now number (rule idle.now))) }
+        (model.idle_line (shown spots.now) present.now reached.now number (rule idle.now))) }
 {
     let Some(word) = idle_word(present, reached, number) else {
         return Ok(());
     };
-    let name = idle.name.as_str();
-    writeln!(out, "{word} /rules/{number} {name}")?;
-    Ok(())
+    put_rule(out, spots, word, number, idle.name.as_str())
 }
 
 /// Adds a line for each rule that is never installed, or never reached.
 pub(crate) fn put_idles(
     out: &mut String,
+    spots: &Spots<'_>,
     present: &[bool],
     reached: &[bool],
     rules: &[Rule],
 ) -> Result<(), AllocError>
     ensures { OnOk result (Gains out.old out.new
-        (model.idle_lines present.now reached.now 0 (map rule rules.now))) }
+        (model.idle_lines (shown spots.now) present.now reached.now 0 (map rule rules.now))) }
 {
     for (n, rule) in rules.iter().enumerate() {
-        put_idle(out, present, reached, n, rule)?;
+        put_idle(out, spots, present, reached, n, rule)?;
     }
     Ok(())
 }

@@ -1,11 +1,14 @@
-//! What the command line asks for, with the bytes of the script's file.
+//! What the command line asks for, with the bytes of the script's file, and the signals that another declares.
 
-ghost use Rattle.std.specs.Prelude.{◌≡◌, IfOk, is_some};
-ghost use Rattle.hipac_live.specs.Asked.{IsOfWords, code_unasked};
-ghost use Rattle.hipac_live.specs.declared.asked.Unasked.TheVariants.{Words};
+ghost use Rattle.std.specs.Prelude.{◌≡◌, IfOk, None, is_some, option_map, string_bytes};
+ghost use Rattle.hipac_live.specs.Asked.{IsOfWords, AreGiven, code_unasked, code_of_signals};
+ghost use Rattle.hipac_live.specs.declared.asked.Unasked.TheVariants.{Words, Signals};
 
+use hp_analysis::Declaration;
 use hp_report::{ReadFault, Watched, read_up_to};
+use hp_signals::{SignalsFault, signals_of_file};
 use hp_words::{Options, WordFault, live_options_of, word_code};
+use std::alloc::Global;
 use std::env::Env;
 use std::fs;
 use std::io::ErrorKind;
@@ -22,10 +25,13 @@ pub struct Asked {
     /// The bytes of the script's file, if one is named. Of a file that is longer than a script may be these are the
     /// first 1,048,577.
     pub script: Option<Vec<u8>>,
+    /// The signatures that are given, be they none, if the rule base refuses what could ever end with `A3`, `A6` or
+    /// `A7`.
+    pub given: Option<Declaration>,
 }
 
 /// Why a command line gives nothing to do.
-#[derive(Clone, Copy, Debug, PartialEq, Eq, Error)]
+#[derive(Debug, PartialEq, Eq, Drop, Error)]
 pub enum Unasked {
     /// Its words gave no options.
     #[error("{0}")]
@@ -33,6 +39,9 @@ pub enum Unasked {
     /// The script's file can't be read.
     #[error("the script's file can't be read")]
     Script,
+    /// The file that declares signals gives none.
+    #[error("{0}")]
+    Signals(SignalsFault),
 }
 
 impl From<WordFault> for Unasked {
@@ -43,18 +52,54 @@ impl From<WordFault> for Unasked {
     }
 }
 
-/// What the process was started with, and the bytes of the file that is named. The contract can't say which words and
-/// which bytes these were, but that the options are those of some words, and that there are bytes exactly if these
-/// words name a file.
+impl From<SignalsFault> for Unasked {
+    ghost from_gives = { λ fault unasked. unasked ≡ Signals fault };
+
+    fn from(fault: SignalsFault) -> Unasked {
+        Unasked::Signals(fault)
+    }
+}
+
+/// What the process was started with, the bytes of the script's file, and the signals of the other file. The contract
+/// can't say which words and which bytes these were, but that the options are those of some words, that the script has
+/// bytes exactly if these words name its file, and that the signals are given as `AreGiven` says.
 pub fn asked_of<R: Env + Files + AllocGlobal>(rt: &R) -> Result<Asked, Unasked>
     ensures { IfOk result (λ asked. IsOfWords asked) }
 {
     let live = live_options_of(rt)?;
     let script = bytes_if(rt, &live.script)?;
+    let given = signals_if(rt, &live.signals, live.checked)?;
     Ok(Asked {
         options: live.options,
         script,
+        given,
     })
+}
+
+/// The signals that are given, if the rule base is checked: those of the file, if one is named, or else none. A file
+/// that is named asks for checks.
+fn signals_if<R: Files + AllocGlobal>(
+    rt: &R,
+    name: &Option<String>,
+    checked: bool,
+) -> Result<Option<Declaration>, SignalsFault>
+    ensures { IfOk result (λ given. AreGiven (option_map string_bytes name.now) checked given) }
+{
+    match name {
+        Some(name) => Ok(Some(signals_of_file(rt, name)?)),
+        None => Ok(nothing_if(rt.alloc(), checked)),
+    }
+}
+
+/// A declaration of nothing, if the rule base is checked.
+fn nothing_if(alloc: Global, checked: bool) -> Option<Declaration>
+    ensures { AreGiven None checked result }
+{
+    if checked {
+        Some(Declaration::new(alloc))
+    } else {
+        None
+    }
 }
 
 /// The bytes of the file, if one is named.
@@ -92,12 +137,23 @@ fn unread_by(no_memory: bool) -> Unasked {
     }
 }
 
-/// The exit status of the program where nothing is asked: 3, or 4 if memory ran out.
-pub fn unasked_code(fault: Unasked) -> u8
-    ensures { result ≡ code_unasked fault }
+/// The exit status of the program where a file gives no signals: 3, or 4 if memory ran out.
+fn signals_code(fault: &SignalsFault) -> u8
+    ensures { result ≡ code_of_signals fault.now }
 {
     match fault {
-        Unasked::Words(fault) => word_code(fault),
+        SignalsFault::Refused(_) | SignalsFault::Unread => word_code(WordFault::Refused),
+        SignalsFault::Memory => word_code(WordFault::NoMemory),
+    }
+}
+
+/// The exit status of the program where nothing is asked: 3, or 4 if memory ran out.
+pub fn unasked_code(fault: &Unasked) -> u8
+    ensures { result ≡ code_unasked fault.now }
+{
+    match fault {
+        Unasked::Words(fault) => word_code(*fault),
         Unasked::Script => word_code(WordFault::Refused),
+        Unasked::Signals(fault) => signals_code(fault),
     }
 }

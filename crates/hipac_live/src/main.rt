@@ -17,7 +17,7 @@ fn main(rt: HostRuntime) -> ExitCode {
     let mut reader = Watched::new(rt.stdin());
     let mut writer = Watched::new(rt.stdout());
     let ended = program(&rt, rt.alloc(), asked, &mut reader, &mut writer);
-    if let Some(stop) = ended.stop {
+    if let Some(stop) = &ended.stop {
         let _ = eprintln!(rt; "{stop}");
     }
     ExitCode::from(ended.code)

@@ -9,8 +9,6 @@ use Rattle.hp_report.specs.declared.status.Status.{Status}
 use Rattle.hp_report.specs.declared.status.Status.TheVariants.{Reported, Refused}
 use Rattle.hipac_text.specs.declared.words.Task.{Task}
 use Rattle.hipac_text.specs.declared.words.Task.TheVariants.{Read, Print}
-use Rattle.hipac_text.specs.declared.words.WordFault.{WordFault}
-use Rattle.hipac_text.specs.declared.words.WordFault.TheVariants as w
 
 abbrev pub task_named : Bytes → Option Task
 task_named word =
@@ -24,11 +22,6 @@ task_for words = None
 -- the task of some command line
 abbrev pub IsTaskOfWords : Task → Type 0
 IsTaskOfWords task = (words : List Bytes) × (task_for words ≡ Some task)
-
--- the program's exit status without a task
-abbrev pub word_code_of : WordFault → ℕ
-word_code_of w.Refused = 3
-word_code_of w.NoMemory = 4
 
 abbrev pub status_if : (is_answered : Bool) → Status
 status_if true = Reported

@@ -5,12 +5,14 @@ ghost use Rattle.std.specs.Result.{IfErr};
 ghost use Rattle.std.specs.Io.KnownBytes.{Appends};
 ghost use Rattle.hp_report.specs.Device.{Begins};
 ghost use Rattle.hp_report.specs.Exits.{code_of};
-ghost use Rattle.hipac_text.specs.Ends.{status_of, word_code_of};
+ghost use Rattle.hp_words.specs.Words.{word_code_of};
+ghost use Rattle.hipac_text.specs.Ends.{status_of};
 ghost use Rattle.hipac_text.specs.Outputs.{output};
 
 use crate::running::run;
-use crate::words::{Task, WordFault, word_code};
+use crate::words::Task;
 use hp_report::{Fault, Sink, Source, exit_code};
+use hp_words::{WordFault, word_code};
 use std::alloc::Global;
 use thiserror::Error;
 

@@ -1,11 +1,10 @@
 //! The words of the command line: `read` or `print`.
 
 ghost use Rattle.std.specs.Prelude.{◌≡◌, ◌≢◌, map, string_bytes, IfOk, Some, None};
-ghost use Rattle.hipac_text.specs.Ends.{task_named, task_for, word_code_of, IsTaskOfWords};
+ghost use Rattle.hipac_text.specs.Ends.{task_named, task_for, IsTaskOfWords};
 
-use std::env;
+use hp_words::{WordFault, own_words};
 use std::env::Env;
-use thiserror::Error as ThisError;
 
 /// What the program is to do.
 #[derive(Clone, Copy, Debug, PartialEq, Eq)]
@@ -14,17 +13,6 @@ pub enum Task {
     Read,
     /// To read JSON and write its canonical text.
     Print,
-}
-
-/// Why there is no task.
-#[derive(Clone, Copy, Debug, PartialEq, Eq, ThisError)]
-pub enum WordFault {
-    /// The words aren't one of `read` and `print`.
-    #[error("command line refused")]
-    Refused,
-    /// Memory ran out.
-    #[error("fault F1")]
-    NoMemory,
 }
 
 /// The task that a word names.
@@ -59,21 +47,6 @@ pub fn parse_words(words: &[String]) -> Result<Task, WordFault>
 pub fn task_of<R: Env + AllocGlobal>(rt: &R) -> Result<Task, WordFault>
     ensures { IfOk result (λ task. IsTaskOfWords task) }
 {
-    let Ok(words) = env::args(rt) else {
-        return Err(WordFault::NoMemory);
-    };
-    let Ok(words) = words.collect::<Vec<String>>(rt.alloc()) else {
-        return Err(WordFault::NoMemory);
-    };
+    let words = own_words(rt)?;
     parse_words(words.as_slice())
-}
-
-/// The exit status of the program without a task: 3 if the words were refused, 4 if memory ran out.
-pub fn word_code(fault: WordFault) -> u8
-    ensures { result ≡ word_code_of fault }
-{
-    match fault {
-        WordFault::Refused => 3,
-        WordFault::NoMemory => 4,
-    }
 }

@@ -1,5 +1,5 @@
 -- The statements of a body by their indices.
-use Rattle.std.proofs.Common.{◌≡◌, refl, ap, ◌∙◌, ℕ, zero, suc, Option, Some}
+use Rattle.std.proofs.Common.{◌≡◌, refl, ap, ◌∙◌, ℕ, zero, suc, Some}
 use Rattle.hp_model.specs.Rules.{Statement, Body, empty, ◌then◌}
 use Rattle.hp_analysis.specs.Parts.{statement_at}
 

@@ -23,7 +23,7 @@ use Rattle.hp_analysis.specs.Findings.{ordered_check, comparable_check, comparis
 use Rattle.hp_analysis.specs.Findings.{sort_with, sort_among, sort_at, row_field_sort, row_key_sort, count_sort, expression_check, kind_check, assignment_check}
 use Rattle.hp_analysis.specs.Findings.{assignments_findings, update_findings, all_set, create_findings, none_missing, next_demand, later_demands, argument_check}
 use Rattle.hp_analysis.specs.Findings.{arguments_findings, emission_check, query_known, single_check, own_findings, inner_findings, statement_findings, body_findings, value_sort}
-use Rattle.hp_analysis.specs.Findings.{count_check, sum_check, is_ordered, extreme_check, aggregate_check, value_check, first_scope, test_check, entry_check, entries_findings}
+use Rattle.hp_analysis.specs.Findings.{count_check, sum_check, is_ordered, extreme_check, aggregate_check, value_check, first_scope, test_findings, query_findings, entries_findings}
 use Rattle.hp_analysis.specs.Findings.{rule_findings, rules_findings, library_findings, unit_findings, unset_field, no_such_field, no_such_argument, unknown_name, not_fired}
 
 -- ---- results
@@ -402,6 +402,26 @@ kind_finds : (library : Library) (d : Declared) (scope : Scope) (k : Kind) (path
     → finds_nothing (found (kind_check library d scope k path e)) ≡ is_only k (sort_of library d scope e)
 kind_finds library d scope k path e = one_finds (kind_check library d scope k path e) (is_only k (sort_of library d scope e)) (kind_judged library d scope k path e)
 
+is_boolean : (b : Bool) → b ≡ is_only boolean_kind (then_some b (only boolean_kind))
+is_boolean true = refl
+is_boolean false = refl
+
+operands_find : (library : Library) (d : Declared) (scope : Scope) (path : Path) (a b : Expression)
+    → finds_nothing (test_findings library d scope (item_at path 1) a) ≡ is_only boolean_kind (sort_of library d scope a)
+    → finds_nothing (test_findings library d scope (item_at path 2) b) ≡ is_only boolean_kind (sort_of library d scope b)
+    → finds_nothing (test_findings library d scope (item_at path 1) a ++ test_findings library d scope (item_at path 2) b) ≡ is_only boolean_kind (sort_of library d scope (both a b))
+operands_find library d scope path a b first second =
+    both_find (test_findings library d scope (item_at path 1) a) (test_findings library d scope (item_at path 2) b)
+    (is_only boolean_kind (sort_of library d scope a)) (is_only boolean_kind (sort_of library d scope b)) first second
+    ∙ is_boolean (is_only boolean_kind (sort_of library d scope a) && is_only boolean_kind (sort_of library d scope b))
+
+-- the operands of a test
+test_finds : (library : Library) (d : Declared) (scope : Scope) (path : Path) (e : Expression)
+    → finds_nothing (test_findings library d scope path e) ≡ is_only boolean_kind (sort_of library d scope e)
+test_finds library d scope path (both a b) = operands_find library d scope path a b (test_finds library d scope (item_at path 1) a) (test_finds library d scope (item_at path 2) b)
+test_finds library d scope path (either a b) = operands_find library d scope path a b (test_finds library d scope (item_at path 1) a) (test_finds library d scope (item_at path 2) b)
+test_finds library d scope path e = kind_finds library d scope boolean_kind path e
+
 update_judged : (library : Library) (d : Declared) (scope : Scope) (path : Path) (class : ℕ) (key : Expression) (pairs : List Assignment)
     → finds_nothing (update_findings library d scope path class key pairs) ≡ (is_only integer_kind (sort_of library d scope key)
     && assignments_kinded library d scope (class_at library class).fields pairs)
@@ -521,17 +541,17 @@ mutual
       plain_judged (found (emission_check library d scope path e)) (statement_kinded library d scope queries (emit e))
       (one_finds (emission_check library d scope path e) (is_some (sort_of library d scope e)) (emission_judged library d scope path e))
   statement_judged library d scope queries path (when e a b) =
-      both_find (found (kind_check library d scope boolean_kind (item_at path 1) e))
+      both_find (test_findings library d scope (item_at path 1) e)
       (body_findings library d scope queries (item_at path 2) 0 a ++ body_findings library d scope queries (item_at path 3) 0 b)
       (is_only boolean_kind (sort_of library d scope e)) (body_kinded library d scope queries a && body_kinded library d scope queries b)
-      (kind_finds library d scope boolean_kind (item_at path 1) e)
+      (test_finds library d scope (item_at path 1) e)
       (both_find (body_findings library d scope queries (item_at path 2) 0 a) (body_findings library d scope queries (item_at path 3) 0 b)
       (body_kinded library d scope queries a) (body_kinded library d scope queries b)
       (body_judged library d scope queries (item_at path 2) 0 a) (body_judged library d scope queries (item_at path 3) 0 b))
   statement_judged library d scope queries path (each x class predicate body) =
-      both_find (found (kind_check library d (with_name x class scope) boolean_kind (item_at path 3) predicate)) (body_findings library d (with_name x class scope) queries (item_at path 4) 0 body)
+      both_find (test_findings library d (with_name x class scope) (item_at path 3) predicate) (body_findings library d (with_name x class scope) queries (item_at path 4) 0 body)
       (is_only boolean_kind (sort_of library d (with_name x class scope) predicate)) (body_kinded library d (with_name x class scope) queries body)
-      (kind_finds library d (with_name x class scope) boolean_kind (item_at path 3) predicate) (body_judged library d (with_name x class scope) queries (item_at path 4) 0 body)
+      (test_finds library d (with_name x class scope) (item_at path 3) predicate) (body_judged library d (with_name x class scope) queries (item_at path 4) 0 body)
   statement_judged library d scope queries path (for_answer x body) =
       let inner = with_name x (unwrap_or (lookup (bytes_eq x) queries) 0) scope in
       both_find (found (query_known (item_at path 1) (lookup (bytes_eq x) queries))) (body_findings library d inner queries (item_at path 2) 0 body)
@@ -573,20 +593,20 @@ mutual
 -- ---- rules
 
 module _ (library : Library) (d : Declared) where
-  test_finds : (scope : Scope) (place : Path) (q : Query) → finds_nothing (found (test_check library d scope place q)) ≡ K.is_test library d scope q.name q.class q.predicate
-  test_finds scope place q = kind_finds library d (with_name q.name q.class scope) boolean_kind place q.predicate
+  query_finds : (scope : Scope) (place : Path) (q : Query) → finds_nothing (query_findings library d scope place q) ≡ K.is_test library d scope q.name q.class q.predicate
+  query_finds scope place q = test_finds library d (with_name q.name q.class scope) place q.predicate
 
   -- nothing is found in entries that are kinded
   entries_judged : (path : Path) (scope : Scope) (i : ℕ) (es : List Entry) → finds_nothing (entries_findings library d path scope i es) ≡ entries_kinded library d scope es
   entries_judged path scope i [] = refl
   entries_judged path scope i (query_entry q ∷ es) =
-      both_find (found (test_check library d scope (item_at (item_at path i) 2) q)) (entries_findings library d path (with_name q.name q.class scope) (suc i) es)
+      both_find (query_findings library d scope (item_at (item_at path i) 2) q) (entries_findings library d path (with_name q.name q.class scope) (suc i) es)
       (K.is_test library d scope q.name q.class q.predicate) (entries_kinded library d (with_name q.name q.class scope) es)
-      (test_finds scope (item_at (item_at path i) 2) q) (entries_judged path (with_name q.name q.class scope) (suc i) es)
+      (query_finds scope (item_at (item_at path i) 2) q) (entries_judged path (with_name q.name q.class scope) (suc i) es)
   entries_judged path scope i (no_entry q ∷ es) =
-      both_find (found (test_check library d scope (item_at (item_at path i) 3) q)) (entries_findings library d path scope (suc i) es)
+      both_find (query_findings library d scope (item_at (item_at path i) 3) q) (entries_findings library d path scope (suc i) es)
       (K.is_test library d scope q.name q.class q.predicate) (entries_kinded library d scope es)
-      (test_finds scope (item_at (item_at path i) 3) q) (entries_judged path scope (suc i) es)
+      (query_finds scope (item_at (item_at path i) 3) q) (entries_judged path scope (suc i) es)
   entries_judged path scope i (let_entry x a ∷ es) =
       let place = item_at (item_at path i) 2 in
       let inner = with_sort x (unwrap_or (aggregate_sort library d scope a) any) scope in

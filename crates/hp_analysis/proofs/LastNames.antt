@@ -8,7 +8,7 @@ use Rattle.hp_query.specs.declared.entry.Entry.{Entry as AnEntry}
 use Rattle.hp_model.specs.Rules.{Entry, query_entry, no_entry, let_entry, Library}
 use Rattle.hp_model.specs.Refusals.{Path, item_at}
 use Rattle.hp_model.specs.Kinds.{Sort, Declared, Columns, Scope, with_entries}
-use Rattle.hp_analysis.specs.Findings.{Finding, found, entry_check, scope_then, entries_findings}
+use Rattle.hp_analysis.specs.Findings.{Finding, entry_findings, scope_then, entries_findings}
 use Rattle.hp_analysis.specs.Scopes.{rows_after, sorts_after, row_after, named_sort, scope_there, scope_after_entry}
 use Rattle.hp_analysis.specs.declared.kinds.sorts.NamedSort.{NamedSort}
 
@@ -83,11 +83,11 @@ scope_step library d c es i e ns ns' n split is given =
 -- what is found in one more entry, and in those after it
 pub entries_noted : (library : Library) (d : Declared) (path : Path) (there inner : Scope) (i : ℕ) (e : Entry) (before rest : List Entry) (old new whole : List Finding)
     → before ≡ e ∷ rest → inner ≡ scope_then library d there e
-    → new ≡ old ++ found (entry_check library d there (item_at path i) e) → old ++ entries_findings library d path there i before ≡ whole
+    → new ≡ old ++ entry_findings library d there (item_at path i) e → old ++ entries_findings library d path there i before ≡ whole
     → new ++ entries_findings library d path inner (i + 1) rest ≡ whole
 entries_noted library d path there inner i e before rest old new whole split same gained kept =
     let next : i + 1 ≡ suc i = omega arith in
-    let one = found (entry_check library d there (item_at path i) e) in
+    let one = entry_findings library d there (item_at path i) e in
     ap (λ k. new ++ entries_findings library d path inner k rest) next
     ∙ ap₂ (λ fs s. fs ++ entries_findings library d path s (suc i) rest) gained same
     ∙ append_assoc old one (entries_findings library d path (scope_then library d there e) (suc i) rest)

@@ -1,6 +1,8 @@
 -- What the index lists is what the definitions trigger.
-use Rattle.std.proofs.Common.{◌≡◌, refl, sym, ap, ap₂, ◌∙◌, ℕ, suc, pos, List, [], ◌∷◌, ◌++◌, Bool, true, false}
+use Rattle.std.proofs.Common.{arith, ◌≡◌, refl, sym, ap, ap₂, ◌∙◌, ℕ, suc, pos, List, [], ◌∷◌, ◌++◌, length, Bool, true, false}
 use Rattle.std.specs.Prelude.{◌||◌, if◌then◌else◌, slice_set}
+use Rattle.hp_model.specs.Values.{Name}
+use Rattle.hp_model.specs.Kinds.{Sort}
 use Rattle.hp_model.specs.Occurrences.{Primitive, created, updated, deleted, signalled, commit_reached}
 use Rattle.hp_model.specs.Events.{Event, pattern_event, or_event, seq_event, closure_event, Pattern, on_create, on_update, on_delete, on_signal, on_commit, at_moment, every_moment, matches}
 use Rattle.hp_model.specs.Rules.{Statement, create, update, delete, signal, emit, when, each, for_answer, with_object, subtransaction, let_value, abort, veto, veto_with, on_rule}
@@ -11,7 +13,8 @@ use Rattle.hp_rule.specs.Index.{numbers_from}
 use Rattle.hp_rule.specs.RuleLists.{listed}
 use Rattle.hp_rule.specs.declared.rule_lists.RuleLists.{RuleLists}
 use Rattle.hp_analysis.specs.Listeners.{listed_by, pattern_ends, may_end, ending, is_plain}
-use Rattle.hp_analysis.specs.Sets.{marked, begun_by}
+use Rattle.hp_analysis.specs.Sets.{marked, begun, begun_by}
+use Rattle.hp_analysis.specs.Outside.{signals_in, raised_by}
 
 -- ---- sets
 
@@ -55,6 +58,9 @@ listed_same l library is p none = is p ∙ numbers_same p none 0 library.rules
 pub commit_listed : (l : RuleLists) (library : Library) → IsIndexOf l library → listed l commit_reached ≡ signal_triggers library commit_reached
 commit_listed l library is = listed_same l library is commit_reached (record { at = λ t. refl; every = λ f p. refl })
 
+pub signal_listed : (l : RuleLists) (library : Library) → IsIndexOf l library → (name : Name) → listed l (signalled name []) ≡ signal_triggers library (signalled name [])
+signal_listed l library is name = listed_same l library is (signalled name []) (record { at = λ t. refl; every = λ f p. refl })
+
 -- a statement without statements in it
 pub own_listed : (l : RuleLists) (library : Library) → IsIndexOf l library → (s : Statement) → is_plain s ≡ true → listed_by l s ≡ statement_triggers library s
 own_listed l library is (create class key assignments) plain = listed_same l library is (created class (pos 0) []) (record { at = λ t. refl; every = λ f p. refl })
@@ -97,3 +103,14 @@ unit_split library (moment t) = refl
 -- first some rules, and then others
 pub marked_twice : (a b ns : List ℕ) (set one two : List Bool) → one ≡ marked a set → two ≡ marked b one → (a ++ b) ≡ ns → two ≡ marked ns set
 marked_twice a b ns set one two is_one is_two same = is_two ∙ ap (marked b) is_one ∙ sym (marked_append a b set) ∙ ap (λ ms. marked ms set) same
+
+-- a transaction that signals these, if there are any
+pub none_raised : (library : Library) (ss : List (Name × List Sort)) (set : List Bool) → length ss ≡ 0 → set ≡ begun library (raised_by ss) set
+none_raised library [] set none = refl
+none_raised library (s ∷ ss) set none = absurd (omega (arith, none))
+
+pub raised_marked : (library : Library) (ss : List (Name × List Sort)) (set one two : List Bool) → (ss ≡ [] → ⊥) → one ≡ marked (body_triggers library (signals_in ss)) set
+    → two ≡ marked (signal_triggers library commit_reached) one → two ≡ begun library (raised_by ss) set
+raised_marked library [] set one two some is_one is_two = absurd (some refl)
+raised_marked library (s ∷ ss) set one two some is_one is_two =
+    marked_twice (body_triggers library (signals_in (s ∷ ss))) (signal_triggers library commit_reached) (unit_triggers library (transaction 0 (signals_in (s ∷ ss)))) set one two is_one is_two refl

@@ -1,5 +1,5 @@
 -- A library in which the rules outside a set do nothing.
-use Rattle.std.proofs.Common.{arith, ◌≡◌, refl, ap, ap₂, ◌∙◌, ℕ, zero, suc, ◌+◌, List, [], ◌∷◌, length, map, Bool, true, false, Some}
+use Rattle.std.proofs.Common.{arith, ◌≡◌, refl, ap, ◌∙◌, ℕ, zero, suc, ◌+◌, List, [], ◌∷◌, length, map, Bool, true, false, Some}
 use Rattle.hp_model.specs.Rules.{Rule, Library}
 use Rattle.std.specs.Prelude.{if◌then◌else◌, option_map, slice_get}
 use Rattle.hp_model.specs.Chains.{may_detach}

@@ -20,11 +20,11 @@ use Rattle.hp_analysis.specs.Findings.{Finding, Wanted, Reason, Reasoned, Judged
 use Rattle.hp_analysis.specs.Findings.{alike_check, ordered_check, comparable_check, comparison_sort, expression_check, kind_check, assignment_check, assignments_findings}
 use Rattle.hp_analysis.specs.Findings.{update_findings, all_set, create_findings, none_missing, next_demand, later_demands, argument_check, arguments_findings, emission_check}
 use Rattle.hp_analysis.specs.Findings.{query_known, single_check, own_findings, inner_findings, statement_findings, body_findings, value_sort, count_check, sum_check, is_ordered}
-use Rattle.hp_analysis.specs.Findings.{extreme_check, aggregate_check, value_check, first_scope, test_check, entry_check, scope_then, entries_findings, rule_findings}
+use Rattle.hp_analysis.specs.Findings.{extreme_check, aggregate_check, value_check, first_scope, test_findings, query_findings, entry_findings, scope_then, entries_findings, rule_findings}
 use Rattle.hp_analysis.specs.Findings.{rules_findings, library_findings, unit_findings, rules_member, row_field_sort, row_key_sort, count_sort, read_new, read_old, read_key}
 use Rattle.hp_analysis.specs.Findings.{read_argument, read_time}
 use Rattle.hp_analysis.specs.Parts.{Part, expression_part, statement_part, field_part, pairs_part, query_part, along, part_in_expression, part_in_aggregate, part_in_pair}
-use Rattle.hp_analysis.specs.Parts.{part_in_pairs, part_in_arguments, statement_at, part_in_statement, part_in_body, part_in_entry, part_in_condition, part_in_rule, part_in_rules}
+use Rattle.hp_analysis.specs.Parts.{part_in_pairs, part_in_arguments, part_in_statement, part_in_body, part_in_entry, part_in_condition, part_in_rule, part_in_rules}
 use Rattle.hp_analysis.specs.Parts.{part_in_library, part_in_unit, is_wanted, IsRefused, ArePlaced}
 use Rattle.hp_analysis.proofs.Bodies.{body_from, from_start, statement_is, later_is}
 use Rattle.hp_analysis.proofs.Judging.{value_in, chosen, sort_given, statement_judged}
@@ -196,6 +196,28 @@ module _ (library : Library) (d : Declared) where
   unfolding kind_check
   kind_located scope path k e =
       located_then (In scope e) path (expression_check library d scope path e) (suits k path) (expression_located scope path e) (λ s is. suits_located scope path k s e (sort_is scope path e s is))
+
+  -- the operands of a test
+  operands_stand : (scope : Scope) (path : Path) (e a b : Expression) → ((steps : Path) → In scope e (to_item 1 ∷ steps) ≡ In scope a steps)
+      → ((steps : Path) → In scope e (to_item 2 ∷ steps) ≡ In scope b steps)
+      → AllStand (In scope a) (item_at path 1) (test_findings library d scope (item_at path 1) a)
+      → AllStand (In scope b) (item_at path 2) (test_findings library d scope (item_at path 2) b)
+      → AllStand (In scope e) path (test_findings library d scope (item_at path 1) a ++ test_findings library d scope (item_at path 2) b)
+  operands_stand scope path e a b first second left right =
+      let one = test_findings library d scope (item_at path 1) a in
+      let other = test_findings library d scope (item_at path 2) b in
+      both_stand (In scope e) path one other
+      (stand_deeper (In scope e) (In scope a) path 1 one first left) (stand_deeper (In scope e) (In scope b) path 2 other second right)
+
+  test_stand : (scope : Scope) (path : Path) (e : Expression) → AllStand (In scope e) path (test_findings library d scope path e)
+  test_stand scope path (both a b) = operands_stand scope path (both a b) a b (λ steps. refl) (λ steps. refl) (test_stand scope (item_at path 1) a) (test_stand scope (item_at path 2) b)
+  test_stand scope path (either a b) = operands_stand scope path (either a b) a b (λ steps. refl) (λ steps. refl) (test_stand scope (item_at path 1) a) (test_stand scope (item_at path 2) b)
+  test_stand scope path e = found_stand (In scope e) path (kind_check library d scope boolean_kind path e) (kind_located scope path boolean_kind e)
+
+  -- a test at an item
+  test_deeper : (scope : Scope) (path : Path) (parts : Path → Option Part) (i : ℕ) (e : Expression) → ((steps : Path) → parts (to_item i ∷ steps) ≡ In scope e steps)
+      → AllStand parts path (test_findings library d scope (item_at path i) e)
+  test_deeper scope path parts i e same = stand_deeper parts (In scope e) path i (test_findings library d scope (item_at path i) e) same (test_stand scope (item_at path i) e)
 
   -- ---- aggregates
 
@@ -409,8 +431,8 @@ module _ (library : Library) (d : Declared) where
       arguments_stand scope queries path name arguments 0 (signature_of d name) arguments refl
       (if_found scope queries path (signal name arguments) (arguments_findings library d scope path 0 (signature_of d name) arguments) refl)
   own_stand scope queries path (emit e) = one_stand scope queries path (emit e) (emission_located scope queries path (emit e) e (λ steps. refl))
-  own_stand scope queries path (when e a b) = kind_stand scope path (At scope queries (when e a b)) 1 boolean_kind e (λ steps. refl)
-  own_stand scope queries path (each x class predicate body) = kind_stand (with_name x class scope) path (At scope queries (each x class predicate body)) 3 boolean_kind predicate (λ steps. refl)
+  own_stand scope queries path (when e a b) = test_deeper scope path (At scope queries (when e a b)) 1 e (λ steps. refl)
+  own_stand scope queries path (each x class predicate body) = test_deeper (with_name x class scope) path (At scope queries (each x class predicate body)) 3 predicate (λ steps. refl)
   own_stand scope queries path (for_answer x body) = one_stand scope queries path (for_answer x body) (query_located scope queries path x body)
   own_stand scope queries path (with_object x class key body) = kind_stand scope path (At scope queries (with_object x class key body)) 3 integer_kind key (λ steps. refl)
   own_stand scope queries path (subtransaction a b) = tt
@@ -491,17 +513,13 @@ module _ (library : Library) (d : Declared) where
   abbrev AtEntry : Scope → Entry → Path → Option Part
   AtEntry scope e steps = part_in_entry scope steps e
 
-  entry_located : (scope : Scope) (path : Path) (e : Entry) → Located library d (AtEntry scope e) path (entry_check library d scope path e)
-  entry_located scope path (query_entry q) =
-      let inner = with_name q.name q.class scope in
-      located_deeper (AtEntry scope (query_entry q)) (In inner q.predicate) path 2 (test_check library d scope (item_at path 2) q) (λ steps. refl)
-      (kind_located inner (item_at path 2) boolean_kind q.predicate)
-  entry_located scope path (no_entry q) =
-      let inner = with_name q.name q.class scope in
-      located_deeper (AtEntry scope (no_entry q)) (In inner q.predicate) path 3 (test_check library d scope (item_at path 3) q) (λ steps. refl)
-      (kind_located inner (item_at path 3) boolean_kind q.predicate)
-  entry_located scope path (let_entry x a) =
-      located_deeper (AtEntry scope (let_entry x a)) (InAggregate scope a) path 2 (value_check library d scope (item_at path 2) a) (λ steps. refl) (value_located scope (item_at path 2) a)
+  entry_stand : (scope : Scope) (path : Path) (e : Entry) → AllStand (AtEntry scope e) path (entry_findings library d scope path e)
+  entry_stand scope path (query_entry q) = test_deeper (with_name q.name q.class scope) path (AtEntry scope (query_entry q)) 2 q.predicate (λ steps. refl)
+  entry_stand scope path (no_entry q) = test_deeper (with_name q.name q.class scope) path (AtEntry scope (no_entry q)) 3 q.predicate (λ steps. refl)
+  entry_stand scope path (let_entry x a) =
+      let check = value_check library d scope (item_at path 2) a in
+      found_stand (AtEntry scope (let_entry x a)) path check
+      (located_deeper (AtEntry scope (let_entry x a)) (InAggregate scope a) path 2 check (λ steps. refl) (value_located scope (item_at path 2) a))
 
   module _ (c : Columns) where
     abbrev start : Scope
@@ -512,12 +530,11 @@ module _ (library : Library) (d : Declared) where
     condition_stand path whole i scope [] is earlier = tt
     condition_stand path whole i scope (e ∷ es) is earlier =
         let parts : Path → Option Part = λ steps. part_in_condition library d c steps whole in
-        let check = entry_check library d scope (item_at path i) e in
+        let own = entry_findings library d scope (item_at path i) e in
         let inner = scope_then library d scope e in
-        both_stand parts path (found check) (entries_findings library d path inner (suc i) es)
-        (found_stand parts path check
-        (located_deeper parts (AtEntry scope e) path i check
-        (λ steps. ap₂ (λ o s. along o (λ e. part_in_entry s steps e)) (item_is i whole e es is) (sym earlier)) (entry_located scope (item_at path i) e)))
+        both_stand parts path own (entries_findings library d path inner (suc i) es)
+        (stand_deeper parts (AtEntry scope e) path i own
+        (λ steps. ap₂ (λ o s. along o (λ e. part_in_entry s steps e)) (item_is i whole e es is) (sym earlier)) (entry_stand scope (item_at path i) e))
         (condition_stand path whole (suc i) inner es (rest_is i whole e es is)
         (ap (λ s. with_entries library d s (e ∷ [])) earlier ∙ sym (one_more start (take i whole) e) ∙ ap (with_entries library d start) (take_next i whole e es is)))
 

@@ -1,5 +1,5 @@
 -- The least closed set of rules that has what units trigger; no other rule fires.
-use Rattle.std.proofs.Common.{arith, ◌≡◌, refl, sym, ap, ◌∙◌, subst, ℕ, zero, suc, ◌+◌, ◌<◌, ◌≤◌, List, [], ◌∷◌, length, map, Bool, true, false, ◌&&◌, Option, Some, None, length-set}
+use Rattle.std.proofs.Common.{arith, ◌≡◌, refl, sym, ap, ◌∙◌, subst, ℕ, zero, suc, ◌+◌, ◌<◌, ◌≤◌, List, [], ◌∷◌, ◌++◌, length, map, Bool, true, false, ◌&&◌, Option, Some, None, length-set}
 use Rattle.std.specs.Prelude.{if◌then◌else◌, slice_set, not, is_none}
 use Rattle.std.specs.List.{AllByRecursion, list_all, slice_index_or}
 use Rattle.std.specs.Option.{option_map_or}
@@ -312,6 +312,11 @@ goes_on after start set triggered more one is h =
 
 pub ends : (after : List (List Bool)) (start set : List Bool) → leading_out set 0 after ≡ None → LeadsTo after start set → set ≡ closure (length start) after start
 ends after start set none h = sym (closure_ends after (length set) set none) ∙ h
+
+-- from some units, and then from others
+pub gathered_append : (of_unit : Unit → List ℕ) (us vs : List Unit) (set : List Bool) → gathered of_unit (us ++ vs) set ≡ gathered of_unit vs (gathered of_unit us set)
+gathered_append of_unit [] vs set = refl
+gathered_append of_unit (u ∷ us) vs set = gathered_append of_unit us vs (marked (of_unit u) set)
 
 -- from what a function finds for each unit
 pub spread_is : (library : Library) (after : List (List Bool)) (of_unit : Unit → List ℕ) (us : List Unit) (set new : List Bool) → set ≡ gathered of_unit us (no_rules library)

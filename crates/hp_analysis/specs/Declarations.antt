@@ -1,7 +1,8 @@
 -- What a declaration stands for in the definitions.
 use Rattle.std.specs.Option.{option_map_or}
-use Rattle.std.specs.Prelude.{Option, List, [], map, string_bytes, String}
+use Rattle.std.specs.Prelude.{◌≡◌, Option, Some, List, [], map, string_bytes, String, bytes_eq, IfSome}
 use Rattle.std.specs.Global.{Vec}
+use Rattle.std.specs.Map.{lookup}
 use Rattle.std.specs.declared.alloc.Global.{Global}
 use Rattle.hp_model.specs.Values.{Name}
 use Rattle.hp_model.specs.Kinds as K
@@ -18,3 +19,7 @@ declared d = record { signatures = signatures d.signatures.entries; fired = d.fi
 -- what a look-up found, as a list
 abbrev pub sorts_found : Option (Vec Sort) → List K.Sort
 sorts_found found = option_map_or (λ v. map sort v.items) found []
+
+-- each signal that the first declares has exactly this signature in the second
+abbrev pub Keeps : K.Declared → K.Declared → Type 0
+Keeps given d = (name : Name) → IfSome (lookup (bytes_eq name) given.signatures) (λ sorts. lookup (bytes_eq name) d.signatures ≡ Some sorts)

@@ -1,6 +1,6 @@
 -- Where a library or a body isn't kinded: the findings of all its parts, in the order in which they stand in a script. A
 -- finding is the place of an expression or a statement, and why it is refused there. An expression, an aggregate or an
--- assignment has at most one: the first in it.
+-- assignment has at most one: the first in it. Of a test, each operand of its `and` and `or` has one.
 use Rattle.std.specs.Prelude.{ℕ, suc, Bool, true, false, ⊤, List, [], ◌∷◌, ◌++◌, Option, Some, None, Result, Ok, Err, codes, bytes_eq, slice_get, is_some, unwrap_or, if◌then◌else◌}
 use Rattle.std.specs.Map.{lookup}
 use Rattle.hp_model.specs.Values.{Name, Kind, integer_kind, boolean_kind, text_kind, Field, kind_of, ◌>>=◌}
@@ -232,6 +232,12 @@ kind_check library d scope k path e = do
   s ← expression_check library d scope path e
   suits k path s
 
+-- a test at a path, which is to be a boolean. The operands of its `and` and `or` are looked at one by one
+abbrev pub test_findings : Library → Declared → Scope → Path → Expression → List Finding
+test_findings library d scope path (both a b) = test_findings library d scope (item_at path 1) a ++ test_findings library d scope (item_at path 2) b
+test_findings library d scope path (either a b) = test_findings library d scope (item_at path 1) a ++ test_findings library d scope (item_at path 2) b
+test_findings library d scope path e = found (kind_check library d scope boolean_kind path e)
+
 -- ---- aggregates
 
 -- the variable means a row of the class in the predicate, which is a boolean
@@ -334,12 +340,10 @@ abbrev pub query_known : Path → Option ℕ → Judged ⊤
 query_known path None = refused path unknown_name
 query_known path (Some class) = Ok tt
 
--- what a statement itself evaluates or names, where that is one thing
+-- what a statement itself evaluates or names, where that is one thing and no test
 abbrev pub single_check : Library → Declared → Scope → List (Name × ℕ) → Path → Statement → Judged ⊤
 single_check library d scope queries path (delete class key) = kind_check library d scope integer_kind (item_at path 2) key
 single_check library d scope queries path (emit e) = emission_check library d scope path e
-single_check library d scope queries path (when e then_body else_body) = kind_check library d scope boolean_kind (item_at path 1) e
-single_check library d scope queries path (each x class predicate body) = kind_check library d (with_name x class scope) boolean_kind (item_at path 3) predicate
 single_check library d scope queries path (for_answer x body) = query_known (item_at path 1) (lookup (bytes_eq x) queries)
 single_check library d scope queries path (with_object x class key body) = kind_check library d scope integer_kind (item_at path 3) key
 single_check library d scope queries path (let_value x a body) = value_check library d scope (item_at path 2) a
@@ -352,6 +356,8 @@ abbrev pub own_findings : Library → Declared → Scope → List (Name × ℕ) 
 own_findings library d scope queries path (create class key pairs) = create_findings library d scope path class key pairs
 own_findings library d scope queries path (update class key pairs) = update_findings library d scope path class key pairs
 own_findings library d scope queries path (signal name arguments) = arguments_findings library d scope path 0 (signature_of d name) arguments
+own_findings library d scope queries path (when e then_body else_body) = test_findings library d scope (item_at path 1) e
+own_findings library d scope queries path (each x class predicate body) = test_findings library d (with_name x class scope) (item_at path 3) predicate
 own_findings library d scope queries path s = found (single_check library d scope queries path s)
 
 abbrev mutual
@@ -388,10 +394,13 @@ first_scope columns = record { columns = Some columns; rows = []; values = [] }
 abbrev pub test_check : Library → Declared → Scope → Path → Query → Judged ⊤
 test_check library d scope path q = kind_check library d (with_name q.name q.class scope) boolean_kind path q.predicate
 
-abbrev pub entry_check : Library → Declared → Scope → Path → Entry → Judged ⊤
-entry_check library d scope path (query_entry q) = test_check library d scope (item_at path 2) q
-entry_check library d scope path (no_entry q) = test_check library d scope (item_at path 3) q
-entry_check library d scope path (let_entry x a) = value_check library d scope (item_at path 2) a
+abbrev pub query_findings : Library → Declared → Scope → Path → Query → List Finding
+query_findings library d scope path q = test_findings library d (with_name q.name q.class scope) path q.predicate
+
+abbrev pub entry_findings : Library → Declared → Scope → Path → Entry → List Finding
+entry_findings library d scope path (query_entry q) = query_findings library d scope (item_at path 2) q
+entry_findings library d scope path (no_entry q) = query_findings library d scope (item_at path 3) q
+entry_findings library d scope path (let_entry x a) = found (value_check library d scope (item_at path 2) a)
 
 -- the scope after an entry; the value of a refused aggregate has any sort
 abbrev pub scope_then : Library → Declared → Scope → Entry → Scope
@@ -401,7 +410,7 @@ scope_then library d scope e = with_entries library d scope (e ∷ [])
 abbrev pub entries_findings : Library → Declared → Path → Scope → ℕ → List Entry → List Finding
 entries_findings library d path scope i [] = []
 entries_findings library d path scope i (e ∷ es) =
-    found (entry_check library d scope (item_at path i) e) ++ entries_findings library d path (scope_then library d scope e) (suc i) es
+    entry_findings library d scope (item_at path i) e ++ entries_findings library d path (scope_then library d scope e) (suc i) es
 
 -- the condition and the action of a rule
 abbrev pub parts_findings : Library → Declared → Columns → Path → Rule → List Finding

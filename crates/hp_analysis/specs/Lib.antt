@@ -23,4 +23,5 @@ pub mod Knowledge
 pub mod Bases
 pub mod Scopes
 pub mod Links
+pub mod Outside
 pub mod Signalled

@@ -1,5 +1,5 @@
 -- Why a rule of a chain may trigger the next one: by what in the script, and what of the next rule's event that ends.
-use Rattle.std.specs.Prelude.{ℕ, zero, suc, pos, ◌==◌, true, IsTrue, List, [], ◌∷◌, ◌++◌, Option, Some, None, slice_get, ◌≡◌, ◌⊎◌, if◌then◌else◌, codes}
+use Rattle.std.specs.Prelude.{ℕ, suc, pos, ◌==◌, true, IsTrue, [], ◌∷◌, ◌++◌, Option, Some, None, slice_get, ◌≡◌, ◌⊎◌, if◌then◌else◌, codes}
 use Rattle.std.specs.List.{list_any}
 use Rattle.std.specs.Option.{option_or, option_and_then}
 use Rattle.hp_model.specs.Occurrences.{Primitive, created, updated, deleted, signalled, commit_reached}

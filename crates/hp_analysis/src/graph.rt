@@ -6,6 +6,7 @@ ghost use Rattle.hp_analysis.specs.Sets.{targets};
 ghost use Rattle.hp_analysis.specs.Graphs.{seen};
 
 use crate::installs::installed;
+use crate::kinds::declaration::Declaration;
 use crate::links::Link;
 use crate::sets::{is_within, spread, within_each};
 use crate::triggers::Triggers;
@@ -24,7 +25,7 @@ pub struct Graph<'a> {
 }
 
 impl<'a> Graph<'a> {
-    ghost use Rattle.std.specs.Prelude.{IfOk, ◌+◌, ◌&&◌, nat_lt, true, false};
+    ghost use Rattle.std.specs.Prelude.{IfOk, ◌+◌, ◌++◌, ◌&&◌, nat_lt, true, false};
     ghost use Rattle.hp_rule.specs.Mapped.{unit};
     ghost use Rattle.hp_analysis.specs.Sets.{is_within, begun};
     ghost use Rattle.hp_analysis.specs.Tables.{within, IsLeast, script};
@@ -34,6 +35,8 @@ impl<'a> Graph<'a> {
     ghost use Rattle.hp_rule.specs.Libraries as libraries;
     ghost use Rattle.hp_analysis.specs.Installed.{installed, with_only};
     ghost use Rattle.hp_analysis.specs.Depths.{library_depth, script_depth};
+    ghost use Rattle.hp_analysis.specs.Declarations.{declared};
+    ghost use Rattle.hp_analysis.specs.Outside.{raised};
 
     /// The graph of a library in which the rules outside the set do nothing.
     fn among(
@@ -166,6 +169,23 @@ impl<'a> Graph<'a> {
             ≡ reached (seen self.now.triggers) (map unit units.now)) }
     {
         let mut set = self.begun(alloc, units)?;
+        spread(&mut set, &self.after);
+        Ok(set)
+    }
+
+    /// The same with one more unit: a transaction that signals all that is declared. No argument of a signal makes a
+    /// difference.
+    pub fn reached_with(
+        &self,
+        alloc: Global,
+        units: &[Unit],
+        declaration: &Declaration,
+    ) -> Result<Vec<bool>, AllocError>
+        ensures { IfOk result (λ set. set.items
+            ≡ reached (seen self.now.triggers) (map unit units.now ++ raised (declared declaration.now))) }
+    {
+        let mut set = self.begun(alloc, units)?;
+        self.triggers.mark_raised(declaration, &mut set);
         spread(&mut set, &self.after);
         Ok(set)
     }

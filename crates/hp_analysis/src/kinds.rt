@@ -17,3 +17,4 @@ mod scope;
 pub(crate) mod sort;
 mod sorts;
 mod statement;
+mod test;

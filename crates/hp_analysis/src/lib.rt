@@ -26,7 +26,7 @@ pub use kinds::all::{KindFinding, kind_findings};
 pub use kinds::check::{library_findings, unit_findings};
 pub use kinds::declaration::Declaration;
 pub use kinds::finding::{Finding, Reason, Wanted};
-pub use kinds::infer::{Inferred, UnknownArgument, infer};
+pub use kinds::infer::{Inferred, UnknownArgument, infer, infer_with};
 pub use kinds::sort::Sort;
 pub use links::Link;
 pub use sets::has;

@@ -8,6 +8,7 @@ ghost use Rattle.hp_analysis.specs.Listeners.{ending};
 ghost use Rattle.hp_analysis.specs.Installed.{with_only};
 
 use crate::forms::{completes, is_plain, may_detach};
+use crate::kinds::declaration::Declaration;
 use crate::links::{Link, Target, body_link, commit_link};
 use crate::listeners::{listeners_of, listening, no_class};
 use crate::sets::{filled, has, mark, mark_all};
@@ -29,9 +30,9 @@ pub(crate) struct Triggers<'a> {
 }
 
 impl<'a> Triggers<'a> {
-    ghost use Rattle.std.specs.Prelude.{IfOk, Bool, map, length, slice_get, true};
+    ghost use Rattle.std.specs.Prelude.{IfOk, Bool, map, length, slice_get, true, []};
     ghost use Rattle.std.specs.Global.{Vec};
-    ghost use Rattle.hp_model.specs.Occurrences.{commit_reached, moment_reached};
+    ghost use Rattle.hp_model.specs.Occurrences.{commit_reached, moment_reached, signalled};
     ghost use Rattle.hp_model.specs.Chains.{completes, statement_triggers, body_triggers, rule_triggers};
     ghost use Rattle.hp_model.specs.Chains.{unit_triggers, signal_triggers};
     ghost use Rattle.hp_rule.specs.Statements.{statement, body_in, rule};
@@ -43,6 +44,9 @@ impl<'a> Triggers<'a> {
     ghost use Rattle.hp_analysis.specs.Graphs.{seen};
     ghost use Rattle.hp_analysis.specs.Links.{rule_link, link_between, link_onward};
     ghost use Rattle.hp_analysis.specs.Signalled.{links};
+    ghost use Rattle.hp_analysis.specs.Declarations.{declared};
+    ghost use Rattle.hp_analysis.specs.Outside.{signals_in, raised};
+    ghost use Rattle.hp_analysis.specs.Sets.{begun};
 
     /// The triggers of a library in which the rules outside the set do nothing.
     ///
@@ -198,6 +202,35 @@ impl<'a> Triggers<'a> {
             ≡ marked (unit_triggers (seen self.now) (unit begun.now)) set.old.items }
     {
         self.mark_begun(begun, set);
+        self.mark_commit(set);
+    }
+
+    /// Adds the rules that a signal of this name may trigger.
+    fn mark_signal(&self, name: &str, set: &mut Vec<bool>)
+        ensures { set.new.items
+            ≡ marked (signal_triggers (seen self.now) (signalled name.now [])) set.old.items }
+    {
+        mark_all(set, self.listeners.rules(Subject::Signalled(name)));
+    }
+
+    /// Adds the rules that the signals which are declared may trigger.
+    fn mark_signals(&self, declaration: &Declaration, set: &mut Vec<bool>)
+        ensures { set.new.items ≡ marked (body_triggers (seen self.now)
+            (signals_in (declared declaration.now).signatures)) set.old.items }
+    {
+        for (name, _) in declaration.signatures.iter() {
+            self.mark_signal(name, set);
+        }
+    }
+
+    /// Adds the rules that a transaction may trigger which signals all that is declared, if anything is.
+    pub(crate) fn mark_raised(&self, declaration: &Declaration, set: &mut Vec<bool>)
+        ensures { set.new.items ≡ begun (seen self.now) (raised (declared declaration.now)) set.old.items }
+    {
+        if declaration.signatures.is_empty() {
+            return;
+        }
+        self.mark_signals(declaration, set);
         self.mark_commit(set);
     }
 

@@ -11,7 +11,7 @@ use Rattle.hp_attempt.specs.Fronts.{AreSound}
 use Rattle.hp_fire.specs.declared.speculate.progress.Progress.{Progress}
 use Rattle.hp_fire.specs.declared.speculate.counts.Counts.{Counts}
 use Rattle.hp_fire.specs.declared.speculate.settled.Settled.{Settled}
-use Rattle.hp_fire.specs.Groups.{IsSoFar, IsRetried, IsAcceptedWithin, IsCounted, OwesOne, IsAhead, Comes, ComesByWave}
+use Rattle.hp_fire.specs.Groups.{IsSoFar, IsRetried, firsts, IsAcceptedWithin, IsCounted, OwesOne, IsAhead, Comes, ComesByWave}
 
 -- only attempts change
 ahead_put : (p q : Progress) → q ≡ record p { pending = q.pending } → IsAhead p q
@@ -21,6 +21,8 @@ ahead_put p q e =
       longer = omega (arith, same);
       waves = ap (λ (x : Progress). x.counts.waves) e;
       retried = ap (λ (x : Progress). x.counts.retried) e;
+      exactly = ap (λ n. n + firsts p.counts.retried.items (length p.settled.outcomes.items)) accepted
+          ∙ ap (λ n. p.counts.accepted + firsts p.counts.retried.items n) (sym same);
       accepted = omega (arith, same, accepted);
       reran = λ less is. absurd (omega (arith, same, less));
       none = λ long was. ap (λ (x : Progress). x.settled.end) e ∙ was;
@@ -32,6 +34,10 @@ ahead_then p q r a b = record {
   longer = omega (arith, a.longer, b.longer);
   waves = b.waves ∙ a.waves;
   retried = b.retried ∙ a.retried;
+  exactly =
+      let next = subst (λ rs. r.counts.accepted + firsts rs.items (length q.settled.outcomes.items) ≡ q.counts.accepted + firsts rs.items (length r.settled.outcomes.items))
+      a.retried b.exactly in
+      omega (arith, a.exactly, next);
   accepted = omega (arith, a.accepted, b.accepted);
   reran = λ less is. by less is (cases_lt (length p.settled.outcomes.items) (length q.settled.outcomes.items));
   none = λ e was.
@@ -57,11 +63,13 @@ ahead_same p = ahead_put p p refl
 -- the front of the attempts, of this length, is accepted
 pub ahead_settled : (p q : Progress) (n : ℕ) → length q.settled.outcomes.items ≡ length p.settled.outcomes.items + n → (n ≡ 0 → q.settled.end ≡ None)
     → (q.counts.waves ≡ p.counts.waves) × (q.counts.retried ≡ p.counts.retried)
+    → q.counts.accepted + firsts p.counts.retried.items (length p.settled.outcomes.items) ≡ p.counts.accepted + firsts p.counts.retried.items (length p.settled.outcomes.items + n)
     → q.counts.accepted ≤ p.counts.accepted + n → (0 < n → IsRetried p.counts (length p.settled.outcomes.items) → q.counts.accepted < p.counts.accepted + n) → IsAhead p q
-ahead_settled p q n longer none same accepted reran = record {
+ahead_settled p q n longer none same exactly accepted reran = record {
   longer = omega (arith, longer);
   waves = same.0;
   retried = same.1;
+  exactly = exactly ∙ ap (λ m. p.counts.accepted + firsts p.counts.retried.items m) (sym longer);
   accepted = omega (arith, longer, accepted);
   reran = λ less is. let one = reran (omega (arith, longer, less)) is in omega (arith, longer, one);
   none = λ e was. none (omega (arith, longer, e));

@@ -2,9 +2,10 @@ mod Attempts
 mod Coming
 mod Decisions
 mod Helping
-mod OneLibrary
+mod OneOrigin
 pub mod Sending
 mod Making
+mod Posted
 mod Immediate
 mod Starting
 mod Stating

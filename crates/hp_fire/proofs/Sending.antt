@@ -254,6 +254,9 @@ tried_send = search (attempt_send, sendable) depth 12
 library_row : IsSync Library.the_row
 library_row = search (rule_sync, expression_parts) depth 30 fits 20000
 
+snapshot_row : IsSync Snapshot.the_row
+snapshot_row = search (base_send, base_sync, shared_layer_sync, small_vec_sync, kept_list_sync, heap.crosses, sendable) depth 12
+
 layer_row_send : IsSend Layer.the_row
 layer_row_send = search layer_parts depth 12
 
@@ -305,7 +308,7 @@ pub wave_sync : (κ : NamedLft) → IsSync (Wave.the_row κ)
 wave_sync κ = search (snapshot_sync, layer_row_send, layer_row_sync, task.the_sync, wave_board, heap.crosses, sendable) depth 30 fits 20000
 
 pub sent_send : (κ : NamedLft) → IsSend (Sent.the_row κ)
-sent_send κ = search (library_row, tried_send, sendable) depth 12
+sent_send κ = search (library_row, snapshot_row, tried_send, sendable) depth 12
 
 pub job_send : (κ : NamedLft) → IsSend (Job.the_row κ)
 job_send κ = declared_send (Job.the_type κ) (search (seat.the_send, sendable) depth 12, (search (sent_send, sender.the_send, heap.crosses, heap.send, sendable) depth 12, tt))

@@ -1,5 +1,5 @@
 -- How far a group of firings with workers has come.
-use Rattle.std.specs.Prelude.{◌≡◌, ℕ, ◌+◌, ◌<◌, ◌≤◌, Bool, true, List, Option, Some, None, All, IfSome, map, option_map, drop, length}
+use Rattle.std.specs.Prelude.{◌≡◌, ℕ, zero, suc, ◌+◌, ◌<◌, ◌≤◌, Bool, true, List, Option, Some, None, All, IfSome, map, option_map, drop, length, cond}
 use Rattle.std.specs.List.{slice_index_or}
 use Rattle.hp_model.specs.Values.{Veto}
 use Rattle.hp_model.specs.Rules.{Library}
@@ -23,8 +23,9 @@ use Rattle.hp_fire.specs.declared.speculate.wave.Wave.{Wave}
 use Rattle.hp_fire.specs.declared.speculate.wave.Job.{Job}
 use Rattle.hp_fire.specs.declared.speculate.channel.Sent.{Sent}
 use Rattle.hp_fire.specs.declared.speculate.channel.Soundness.{Soundness}
-use Rattle.hp_fire.specs.Channels.{IsOf}
-use Rattle.hp_board.specs.Deal.{Deal, IsSeatOf}
+use Rattle.hp_fire.specs.Channels.{IsOf, IsFrom}
+use Rattle.hp_fire.specs.Starts.{HasMerged}
+use Rattle.hp_board.specs.Deal.{IsSeatOf}
 use Rattle.hp_board.specs.Passes.{IsPassOf}
 use Rattle.rtrb.specs.Ring.{sent, received}
 use Rattle.rtrb.specs.declared.consumer.Consumer.{Consumer}
@@ -56,6 +57,11 @@ AreSoundTries library tries = All (λ t. IsSound library (attempt t.attempt)) tr
 abbrev pub IsRetried : Counts → ℕ → Type 0
 IsRetried c number = slice_index_or c.retried.items number true ≡ true
 
+-- how many of the first n tasks were not tried again after the first wave
+abbrev pub firsts : List Bool → ℕ → ℕ
+firsts retried zero = 0
+firsts retried (suc n) = firsts retried n + cond (slice_index_or retried n true) 0 1
+
 -- no more tasks are counted as accepted than are settled
 abbrev pub IsAcceptedWithin : Progress → Type 0
 IsAcceptedWithin p = p.counts.accepted ≤ length p.settled.outcomes.items
@@ -68,20 +74,25 @@ IsCounted p = IsAcceptedWithin p × (p.counts.waves + p.counts.accepted ≤ leng
 abbrev pub OwesOne : Progress → Type 0
 OwesOne p = IsAcceptedWithin p × (p.counts.waves + p.counts.accepted ≤ length p.settled.outcomes.items + 2)
 
--- what a worker is given: a seat at the wave's board, and an end of a channel for the library's attempts
-abbrev pub IsJob : Library → Deal → Job → Type 0
-IsJob library deal job = IsSeatOf deal job.seat × IsOf library (sent job.sender)
+-- what a worker of a wave is given: a seat at the wave's board, and an end of a channel for attempts that are sound for
+-- the library, at tasks that are tried from the wave's snapshot
+pub record IsJob (library : Library) (w : Wave) (job : Job) : Type 0 where
+  pub seat : IsSeatOf w.board.deal job.seat
+  pub of : IsOf library (sent job.sender)
+  pub from : IsFrom w.snapshot w.done (sent job.sender)
 
 -- the owner's ends of such channels
 abbrev pub AreOf : Library → List (Consumer Sent Global Soundness) → Type 0
 AreOf library receivers = All (λ r. IsOf library (received r)) receivers
 
--- Tasks were settled from attempts: no more were accepted than were settled, and fewer if the first of them was tried
--- again
+-- Tasks were settled from attempts. Exactly those of them were accepted that were not tried again: no more than were
+-- settled, and fewer if the first of them was tried again
 pub record IsAhead (old new : Progress) : Type 0 where
   pub longer : length old.settled.outcomes.items ≤ length new.settled.outcomes.items
   pub waves : new.counts.waves ≡ old.counts.waves
   pub retried : new.counts.retried ≡ old.counts.retried
+  pub exactly : new.counts.accepted + firsts old.counts.retried.items (length old.settled.outcomes.items)
+      ≡ old.counts.accepted + firsts old.counts.retried.items (length new.settled.outcomes.items)
   pub accepted : new.counts.accepted + length old.settled.outcomes.items ≤ old.counts.accepted + length new.settled.outcomes.items
   pub reran : length old.settled.outcomes.items < length new.settled.outcomes.items → IsRetried old.counts (length old.settled.outcomes.items)
       → new.counts.accepted + length old.settled.outcomes.items < old.counts.accepted + length new.settled.outcomes.items
@@ -118,6 +129,7 @@ pub record Advances (library : Library) (stops : Bool) (tasks : List Task) (view
 abbrev pub IsWave : Wave → Type 0
 IsWave w = w.done + length w.board.cells ≡ length w.tasks.now
 
--- a worker has its seat and its pass at the wave's board, except while the board has them
+-- A worker has its seat and its pass at the wave's board, except while the board has them. It has merged what the pass
+-- knows of the first tasks.
 abbrev pub IsWorker : Worker → Type 0
-IsWorker w = IfSome w.seat (IsSeatOf w.wave.now.board.deal) × IfSome w.pass (IsPassOf w.wave.now.board.cells)
+IsWorker w = IfSome w.seat (IsSeatOf w.wave.now.board.deal) × IfSome w.pass (λ p. IsPassOf w.wave.now.board.cells p × HasMerged w.predecessors p)

@@ -7,6 +7,7 @@ pub mod Joined
 pub mod Mapped
 pub mod Runs
 pub mod Signals
+pub mod Starts
 pub mod Statements
 pub mod Trying
 pub mod Weights

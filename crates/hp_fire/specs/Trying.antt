@@ -1,5 +1,5 @@
 -- Trying the tasks of a wave: what it needs, and what it gives.
-use Rattle.std.specs.Prelude.{Result, All, IfOk, OnOk}
+use Rattle.std.specs.Prelude.{◌≡◌, Result, All, IfOk, OnOk}
 use Rattle.std.specs.Global.{Global}
 use Rattle.std.specs.declared.vec.Vec.{Vec}
 use Rattle.std.specs.declared.alloc.AllocError.{AllocError}
@@ -36,7 +36,7 @@ Found = Result (Vec (Vec Tried Global) Global) AllocError × Result (Unit {0}) A
 pub record MayTry (lib : Library) (wave : Wave) (seats : Seats) (progress : Progress) (receivers : Receivers) : Type 0 where
   pub wave_is : IsWave wave
   pub seat_is : IsSeatOf wave.board.deal seats.0
-  pub jobs_are : All (IsJob lib wave.board.deal) seats.1.items
+  pub jobs_are : All (IsJob lib wave) seats.1.items
   pub channels_are : AreOf lib receivers.items
   pub sound : AreSound lib progress.pending.attempts.items
   pub accepted : IsAcceptedWithin progress
@@ -46,6 +46,7 @@ pub record HasTried (lib : Library) (wave : Wave) (old new : Seeing) (before aft
   pub found_sound : IfOk found.0 (λ all. All (λ tries. AreSoundTries lib tries.items) all.items)
   pub comes : OnOk found.1 (ComesInWave lib wave old before new after)
   pub channels_are : AreOf lib receivers.items
+  pub waves : after.counts.waves ≡ before.counts.waves
 
 -- a function that tries waves
 module _ {F : Type 0} (g : Shared F (Bor (Engine Alone) × (Bor Wave × (Seats × (MutBor Seeing × (MutBor Progress × (MutBor Receivers × Unit {0}))))))

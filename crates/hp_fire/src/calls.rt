@@ -131,16 +131,11 @@ impl<W: Workers> Engine<'_, W> {
             ensures { IfOk result (TaskFires self.entry.now.lib.now task.now view.old view.new) }
         { self.inside(effort, width).fire_task(view, task) };
         let group = Group {
-            workers,
-            alloc: self.alloc,
-            lib: self.lib,
+            engine: self.with_workers(workers),
             tasks,
             stop_at_veto,
-            width: self.width,
             eager,
             fire: &fire,
-            effort: self.effort,
-            past: self.past,
         };
         group.run(view)
     }

@@ -46,13 +46,29 @@ impl<'a, W> Engine<'a, W> {
         ensures width { result.width ≡ width }
         ensures workers { result.workers ≡ workers.entry }
     {
+        Engine::counting(workers, alloc, lib, width, past, &past.effort)
+    }
+
+    /// An engine whose work is counted in `effort`. All engines are made here.
+    pub(crate) fn counting(
+        workers: &'a W,
+        alloc: Global,
+        lib: &'a Library,
+        width: usize,
+        past: &'a Past,
+        effort: &'a Effort,
+    ) -> Engine<'a, W>
+        ensures lib { result.lib ≡ lib.entry }
+        ensures width { result.width ≡ width }
+        ensures workers { result.workers ≡ workers.entry }
+    {
         Engine {
             workers,
             alloc,
             lib,
             width,
             past,
-            effort: &past.effort,
+            effort,
         }
     }
 
@@ -62,13 +78,22 @@ impl<'a, W> Engine<'a, W> {
         ensures lib { result.lib ≡ self.entry.now.lib }
         ensures workers { result.workers ≡ self.entry.now.workers }
     {
-        Engine {
-            workers: self.workers,
-            alloc: self.alloc,
-            lib: self.lib,
-            width,
-            past: self.past,
-            effort,
-        }
+        Engine::counting(self.workers, self.alloc, self.lib, width, self.past, effort)
+    }
+
+    /// This engine with other workers for its groups.
+    pub(crate) fn with_workers<'b, V>(&'b self, workers: &'b V) -> Engine<'b, V>
+        ensures lib { result.lib ≡ self.entry.now.lib }
+        ensures width { result.width ≡ self.entry.now.width }
+        ensures workers { result.workers ≡ workers.entry }
+    {
+        Engine::counting(
+            workers,
+            self.alloc,
+            self.lib,
+            self.width,
+            self.past,
+            self.effort,
+        )
     }
 }

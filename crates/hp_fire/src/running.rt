@@ -77,16 +77,11 @@ impl<W: Workers> Engine<'_, W> {
             self.inside(effort, width).fire_task(view, task)
         };
         let group = Group {
-            workers: self.workers,
-            alloc: self.alloc,
-            lib: self.lib,
+            engine: *self,
             tasks,
             stop_at_veto: true,
-            width: self.width,
             eager: false,
             fire: &fire,
-            effort: self.effort,
-            past: self.past,
         };
         group.run(view)
     }

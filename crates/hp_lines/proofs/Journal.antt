@@ -9,7 +9,7 @@ use Rattle.hp_model.specs.Rules.{Library, Rule}
 use Rattle.hp_model.specs.State.{State, initial_state}
 use Rattle.hp_model.specs.Cascade.{Unit, Script, UnitReport, Evaluation, unit_report, run_unit, run_units, evaluate}
 use Rattle.hp_model.specs.Scopes.{Scope}
-use Rattle.hp_model.specs.Refusals.{Path, Refusal, Decoded, under_root, item_at, over_limit, size_limit, shaped}
+use Rattle.hp_model.specs.Refusals.{Path, Decoded, under_root, item_at, over_limit, size_limit, shaped}
 use Rattle.hp_model.specs.Json.{json_of, list_of}
 use Rattle.hp_model.specs.Decode.{Version, Schedule, no_item, Root, version_at, root_of, readable, json_at, unit_at, units_from, units_at, decode, script_of}
 use Rattle.hp_model.specs.Report.{Bytes, transaction_text, units_text}
@@ -26,9 +26,11 @@ use Rattle.hp_notation.specs.Readings.{timed_script_in, request_in}
 use Rattle.hp_notation.proofs.Told.{told_ok}
 use Rattle.hp_lines.specs.Lines.{Line}
 use Rattle.hp_lines.specs.Readings.{script_read, line_read, script_value, line_value}
-use Rattle.hp_lines.specs.Live.{Manner, RuleBase, new_base, up, closed, opening_answer, later_answer, stage_after}
+use Rattle.hp_lines.specs.Checked.{script_fault, request_fault}
+use Rattle.hp_lines.specs.Live.{Manner, RuleBase, new_base, up, closed, script_for, request_for, opening_answer, later_answer, stage_after}
 use Rattle.hp_lines.specs.Journal.{item_in, value_if, body_if, accepted, accepted_bodies, AcceptedLinesReplay}
 use Rattle.hp_lines.proofs.Anywhere.{unit_goes}
+use Rattle.hp_lines.proofs.Checked.{checked_read}
 use Rattle.hp_lines.proofs.Lines.{too_long}
 use Rattle.hp_lines.proofs.Pieces.{closed_stage}
 
@@ -216,14 +218,15 @@ text_joined manner S base before s leads =
 step : (manner : Manner) (S : State) (path : Path) (base : RuleBase) (before : Schedule) (i : ℕ) (l : Line) (ls : List Line) (end : RuleBase)
     → ((base : RuleBase) (before : Schedule) (i : ℕ) → Leads S before base → stage_after manner (up base) ls ≡ up end
     → Leads_on manner S path base before i (accepted manner (up base) ls) (accepted_bodies manner (up base) ls) end)
-    → Leads S before base → (r : Result Request Bytes) → request_in manner.is_text base.version base.library base.clock l ≡ r
+    → Leads S before base → (r : Result Request Bytes) → request_for manner base l ≡ r
     → stage_after manner (later_answer manner.with_tree base r).stage ls ≡ up end
     → Leads_on manner S path base before i (value_if (item_in r) (line_value manner.is_text l) ++ accepted manner (later_answer manner.with_tree base r).stage ls)
     (body_if (item_in r) (later_answer manner.with_tree base r).body ++ accepted_bodies manner (later_answer manner.with_tree base r).stage ls) end
 step manner S path base before i l ls end rest leads (Err e) asked ends = rest base before i leads ends
 step manner S path base before i l ls end rest leads (Ok (show excerpt)) asked ends = rest base before i leads ends
 step manner S path base before i l ls end rest leads (Ok (item s)) asked ends =
-    let read = item_read manner.is_text base.version base.library base.clock l s asked in
+    let taken = checked_read manner.checks (request_fault base.library) (request_in manner.is_text base.version base.library base.clock l) (item s) asked in
+    let read = item_read manner.is_text base.version base.library base.clock l s taken in
     let clock : nothing_since base.clock ≡ nothing_since before.clock = ap nothing_since (sym leads.clock_is) in
     let alone = ap (λ b. unit_at base.version base.library.rules (library_scope base.library) [] b read.value) (sym clock) ∙ read.reads in
     let here = unit_goes base.version base.library.rules (library_scope base.library) before read.value [] (item_at path i) s alone in
@@ -259,7 +262,7 @@ later_lines manner S path base before i [] end leads ends =
     }
 later_lines manner S path base before i (l ∷ ls) end leads ends =
     step manner S path base before i l ls end (λ base' before' i' leads' ends'. later_lines manner S path base' before' i' ls end leads' ends')
-    leads (request_in manner.is_text base.version base.library base.clock l) refl ends
+    leads (request_for manner base l) refl ends
 
 -- ---- the first line
 
@@ -368,7 +371,7 @@ record ReplaysBy (manner : Manner) (r : Result TimedScript Bytes) (later : List 
       ≡ ((opening_answer manner.with_tree r).body ++ accepted_bodies manner (opening_answer manner.with_tree r).stage later) ++ final_text base.library base.state.objects base.state.rules
 
 replayed_by : (manner : Manner) (first : Line) (later : List Line) (journal : Data) (base : RuleBase) (script : Data) (root : Root) (entries : Data) (items : List Data) (r : Result TimedScript Bytes)
-    → timed_script_in manner.is_text first ≡ r → stage_after manner (opening_answer manner.with_tree r).stage later ≡ up base → script_value manner.is_text first ≡ Some script
+    → script_for manner first ≡ r → stage_after manner (opening_answer manner.with_tree r).stage later ≡ up base → script_value manner.is_text first ≡ Some script
     → root_of script ≡ Some root
     → root_of journal ≡ Some (with_entries root entries) → list_of root.items ≡ Some items → list_of entries ≡ Some (items ++ accepted manner (opening_answer manner.with_tree r).stage later)
     → ReplaysBy manner r later journal base
@@ -378,7 +381,8 @@ replayed_by manner first later journal base script root entries items (Err e) re
 replayed_by manner first later journal base script root entries items (Ok t) read ends value is_root is_journal are_items are_entries =
     let library = t.script.library in
     let S = initial_state library in
-    let o = opening script root items t is_root are_items (first_read manner.is_text first script t value read) in
+    let taken = checked_read manner.checks script_fault (timed_script_in manner.is_text first) t read in
+    let o = opening script root items t is_root are_items (first_read manner.is_text first script t value taken) in
     let given : Schedule = record { units = t.script.units; clock = t.clock } in
     let opened = ran_to (new_base t.version library) given in
     let path = under_root (codes "items") in
@@ -424,7 +428,7 @@ notation_read text s d script decoded read same =
 
 pub accepted_lines_replay : AcceptedLinesReplay
 accepted_lines_replay manner first later journal base ends j =
-    let by = replayed_by manner first later journal base j.script j.root j.entries j.items (timed_script_in manner.is_text first) refl ends j.first_is
+    let by = replayed_by manner first later journal base j.script j.root j.entries j.items (script_for manner first) refl ends j.first_is
     j.root_is j.journal_is j.items_are j.entries_are in
     record {
       script = by.script;

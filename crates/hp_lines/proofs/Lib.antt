@@ -5,3 +5,10 @@ pub mod Anywhere
 pub mod Journal
 pub mod Sessions
 pub mod Snapshots
+pub mod Checked
+pub mod Sound
+pub mod FitData
+pub mod FitReadings
+pub mod FitStatements
+pub mod FitScripts
+pub mod FitLines

@@ -14,6 +14,7 @@ use Rattle.hp_script.specs.Timed.{timed_script_at, timed_script_of}
 use Rattle.hp_script.specs.Requests.{request_at, request_of}
 use Rattle.hp_notation.specs.Readings.{told, timed_script_in, request_in}
 use Rattle.hp_lines.specs.Lines.{Line}
+use Rattle.hp_lines.specs.Checked.{checked_by, script_fault, request_fault}
 use Rattle.hp_lines.specs.Live.{Manner, Stage, unopened, up, closed, opening_answer, later_answer, answer}
 
 long_script : (bytes : List ℕ) → 1048576 < length bytes → timed_script_of bytes ≡ Err (over_limit size_limit)
@@ -54,6 +55,7 @@ kept_request true version library clock l =
     ap (told placed_refusal_text) (cut 1048577 (text_line_checked (request_at version library clock)) (Err too_long) l (λ bytes h. long_line (request_at version library clock) bytes (omega arith)))
 
 pub kept_answer : (manner : Manner) (stage : Stage) (l : Line) → answer manner stage (take 1048577 l) ≡ answer manner stage l
-kept_answer manner unopened l = ap (opening_answer manner.with_tree) (kept_script manner.is_text l)
-kept_answer manner (up base) l = ap (later_answer manner.with_tree base) (kept_request manner.is_text base.version base.library base.clock l)
+kept_answer manner unopened l = ap (λ r. opening_answer manner.with_tree (checked_by manner.checks script_fault r)) (kept_script manner.is_text l)
+kept_answer manner (up base) l =
+    ap (λ r. later_answer manner.with_tree base (checked_by manner.checks (request_fault base.library) r)) (kept_request manner.is_text base.version base.library base.clock l)
 kept_answer manner closed l = refl

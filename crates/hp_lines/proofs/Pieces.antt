@@ -3,7 +3,7 @@ use Rattle.std.proofs.Common.{◌≡◌, ◌==◌, ℕ, suc, nat_lt, Bool, true,
 use Rattle.std.proofs.lemmas.Bool.{cases_lt, lt-ltb, le-ltb}
 use Rattle.std.proofs.lemmas.List.{take_all, take-append-le, length-take-le, length-append}
 use Rattle.hp_model.specs.Report.{Bytes}
-use Rattle.hp_lines.specs.Lines.{Line, begun, lines_from, lines_of, kept_with}
+use Rattle.hp_lines.specs.Lines.{Line, begun, lines_from, kept_with}
 use Rattle.hp_lines.specs.Live.{Manner, Stage, unopened, closed, Answer, answer, answers, stage_after, lines_by, output, Server, reply, answered, grown, byte_output, next}
 use Rattle.hp_lines.specs.Live.{piece_output, after, end_output, input_output, stage_at_end, opening_output, opened_server}
 use Rattle.hp_lines.proofs.Lines.{kept_answer}

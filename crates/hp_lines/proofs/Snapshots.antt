@@ -4,7 +4,7 @@ use Rattle.std.proofs.Common.{◌≡◌, refl, ap, ◌∙◌, ℕ, suc, ◌+◌,
 use Rattle.std.specs.Prelude.{codes}
 use Rattle.std.specs.List.{slice_index_or}
 use Rattle.hp_model.specs.Rules.{Rule, Library}
-use Rattle.hp_model.specs.State.{State, Status, RuleState, absent, with_status}
+use Rattle.hp_model.specs.State.{State, RuleState, absent, with_status}
 use Rattle.hp_model.specs.Cascade.{UnitReport, run_units}
 use Rattle.hp_model.specs.Report.{Bytes, line, status_word, objects_text, rules_text, units_text}
 use Rattle.hp_model.specs.Snapshots.{StatesAlike}
@@ -12,9 +12,8 @@ use Rattle.hp_model.proofs.Alike.{alike_go_on}
 use Rattle.hp_model.proofs.Snapshots.{snapshots_are_alike}
 use Rattle.hp_report.specs.Text.{class_text, object_text}
 use Rattle.hp_script.specs.Requests.{Excerpt, whole_state, objects_of, object_at, Request, item, show}
-use Rattle.hp_notation.specs.Readings.{request_in}
 use Rattle.hp_lines.specs.Lines.{Line}
-use Rattle.hp_lines.specs.Live.{Manner, RuleBase, up, ok_line, excerpt_text, later_answer, answers}
+use Rattle.hp_lines.specs.Live.{Manner, RuleBase, up, ok_line, excerpt_text, request_for, later_answer, answers}
 use Rattle.hp_lines.specs.Snapshots.{with_state, AlikeAnswer, state_by_snapshot, SnapshotsAnswer}
 
 -- rules of the same statuses have the same lines
@@ -54,7 +53,7 @@ one_answer manner ls base T like later (Ok (item schedule)) =
 pub alike_answer : AlikeAnswer
 alike_answer manner [] base T like = refl
 alike_answer manner (l ∷ ls) base T like =
-    one_answer manner ls base T like (λ b S h. alike_answer manner ls b S h) (request_in manner.is_text base.version base.library base.clock l)
+    one_answer manner ls base T like (λ b S h. alike_answer manner ls b S h) (request_for manner base l)
 
 pub snapshots_answer : SnapshotsAnswer
 snapshots_answer manner lines base times parts fit_library fit same forgets =

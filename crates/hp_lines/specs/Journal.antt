@@ -1,5 +1,5 @@
 -- Accepted lines are a journal: a script of their items gives the same answers and the same state.
-use Rattle.std.specs.Prelude.{◌≡◌, nat_lt, Bool, List, [], ◌∷◌, ◌++◌, length, Option, Some, None, Result, Ok, Err, if◌then◌else◌}
+use Rattle.std.specs.Prelude.{◌≡◌, nat_lt, List, [], ◌∷◌, ◌++◌, length, Option, Some, None, Result, Ok, Err, if◌then◌else◌}
 use Rattle.serde_json.specs.Data.{Data}
 use Rattle.hp_model.specs.Cascade.{Script, evaluate}
 use Rattle.hp_model.specs.Refusals.{over_limit, size_limit}
@@ -13,9 +13,8 @@ use Rattle.hp_model.specs.Output.{text_of}
 use Rattle.hp_report.specs.Text.{final_text}
 use Rattle.hp_script.specs.Requests.{Request, item, show}
 use Rattle.hp_lines.specs.Lines.{Line}
-use Rattle.hp_notation.specs.Readings.{request_in}
 use Rattle.hp_lines.specs.Readings.{script_value, line_value}
-use Rattle.hp_lines.specs.Live.{Manner, RuleBase, Stage, unopened, up, closed, answer, stage_after}
+use Rattle.hp_lines.specs.Live.{Manner, RuleBase, Stage, unopened, up, closed, request_for, answer, stage_after}
 
 -- the schedule of a line, if the line is an accepted item
 abbrev pub item_in : Result Request Bytes → Option Schedule
@@ -25,7 +24,7 @@ item_in (Err refusal) = None
 
 abbrev pub item_for : Manner → Stage → Line → Option Schedule
 item_for manner unopened l = None
-item_for manner (up base) l = item_in (request_in manner.is_text base.version base.library base.clock l)
+item_for manner (up base) l = item_in (request_for manner base l)
 item_for manner closed l = None
 
 abbrev pub value_if : Option Schedule → Option Data → List Data

@@ -1,14 +1,16 @@
 -- The answers of a running rule manager to lines.
 use Rattle.std.specs.Prelude.{ℕ, ◌+◌, ◌==◌, Bool, List, [], ◌∷◌, ◌++◌, length, codes, decimal, Option, Some, None, Result, Ok, Err, if◌then◌else◌}
 use Rattle.hp_model.specs.Rules.{Library}
+use Rattle.hp_model.specs.Kinds.{Declared}
 use Rattle.hp_model.specs.State.{State, initial_state}
-use Rattle.hp_model.specs.Cascade.{run_units}
+use Rattle.hp_model.specs.Cascade.{UnitReport, run_units}
 use Rattle.hp_model.specs.Decode.{Version, Schedule}
 use Rattle.hp_model.specs.Report.{Bytes, line, units_text}
 use Rattle.hp_report.specs.Text.{state_text, class_text, object_text}
 use Rattle.hp_script.specs.Timed.{TimedScript}
 use Rattle.hp_script.specs.Requests.{Excerpt, whole_state, objects_of, object_at, Request, item, show}
 use Rattle.hp_lines.specs.Lines.{Line, lines_of, kept_with, begun}
+use Rattle.hp_lines.specs.Checked.{checked_by, script_fault, request_fault}
 use Rattle.hp_notation.specs.Readings.{timed_script_in, request_in}
 
 -- ---- a running rule base
@@ -30,18 +32,21 @@ pub data Stage : Type 0 where
   up : RuleBase → Stage
   closed : Stage
 
--- how lines are read and answered: whether they are text in the notation or JSON, and whether the answers have trees
+-- how lines are read and answered: whether they are text in the notation or JSON, whether the answers have trees, and
+-- what is declared of signals, if the rule base is checked
 pub record Manner : Type 0 where
   pub is_text : Bool
   pub with_tree : Bool
+  pub checks : Option Declared
 
 -- ---- answers
 
--- the lines of an answer before its last, its last line, and the stage after it
+-- the lines of an answer before its last, its last line, the stage after it, and the reports of the units that ran
 pub record Answer : Type 0 where
   pub body : Bytes
   pub last : Bytes
   pub stage : Stage
+  pub ran : List UnitReport
 
 abbrev pub ok_line : ℕ → Bytes
 ok_line units = line 0 (codes "ok" ∷ decimal units ∷ [])
@@ -55,11 +60,12 @@ ran with_tree base schedule =
       body = units_text base.library with_tree (base.units + 1) e.units;
       last = ok_line units;
       stage = up (record { version = base.version; library = base.library; state = e.state; clock = schedule.clock; units = units });
+      ran = e.units;
     }
 
 -- a refused line changes nothing
 abbrev pub opening_answer : (with_tree : Bool) → Result TimedScript Bytes → Answer
-opening_answer with_tree (Err refusal) = record { body = []; last = refusal; stage = closed }
+opening_answer with_tree (Err refusal) = record { body = []; last = refusal; stage = closed; ran = [] }
 opening_answer with_tree (Ok t) = ran with_tree (new_base t.version t.script.library) (record { units = t.script.units; clock = t.clock })
 
 -- the lines of a part of a state
@@ -69,16 +75,24 @@ excerpt_text library S (objects_of class) = class_text library class S.objects
 excerpt_text library S (object_at class key) = object_text library class key S.objects
 
 abbrev pub later_answer : (with_tree : Bool) → RuleBase → Result Request Bytes → Answer
-later_answer with_tree base (Err refusal) = record { body = []; last = refusal; stage = up base }
+later_answer with_tree base (Err refusal) = record { body = []; last = refusal; stage = up base; ran = [] }
 later_answer with_tree base (Ok (item schedule)) = ran with_tree base schedule
 later_answer with_tree base (Ok (show excerpt)) =
-    record { body = excerpt_text base.library base.state excerpt; last = ok_line base.units; stage = up base }
+    record { body = excerpt_text base.library base.state excerpt; last = ok_line base.units; stage = up base; ran = [] }
 
--- the first line is a script; each later one is an item of its version over its library, or asks for a part of the state
+-- what a first line is read as: a script
+abbrev pub script_for : Manner → Line → Result TimedScript Bytes
+script_for manner l = checked_by manner.checks script_fault (timed_script_in manner.is_text l)
+
+-- what a later line is read as: an item of the script's version over its library, or a question for a part of the state
+abbrev pub request_for : Manner → RuleBase → Line → Result Request Bytes
+request_for manner base l =
+    checked_by manner.checks (request_fault base.library) (request_in manner.is_text base.version base.library base.clock l)
+
 abbrev pub answer : Manner → Stage → Line → Answer
-answer manner unopened l = opening_answer manner.with_tree (timed_script_in manner.is_text l)
-answer manner (up base) l = later_answer manner.with_tree base (request_in manner.is_text base.version base.library base.clock l)
-answer manner closed l = record { body = []; last = []; stage = closed }
+answer manner unopened l = opening_answer manner.with_tree (script_for manner l)
+answer manner (up base) l = later_answer manner.with_tree base (request_for manner base l)
+answer manner closed l = record { body = []; last = []; stage = closed; ran = [] }
 
 -- ---- lines, one after the other
 
@@ -87,6 +101,11 @@ answers manner stage [] = []
 answers manner stage (l ∷ ls) =
     let a = answer manner stage l in
     (a.body ++ a.last) ++ answers manner a.stage ls
+
+-- the reports of all units that ran
+abbrev pub reports : Manner → Stage → List Line → List UnitReport
+reports manner stage [] = []
+reports manner stage (l ∷ ls) = let a = answer manner stage l in a.ran ++ reports manner a.stage ls
 
 abbrev pub stage_after : Manner → Stage → List Line → Stage
 stage_after manner stage [] = stage

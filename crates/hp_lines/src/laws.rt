@@ -2,6 +2,7 @@
 
 ghost use Rattle.hp_lines.specs.Journal.{AcceptedLinesReplay};
 ghost use Rattle.hp_lines.specs.Laws.{BytesAreLines, PiecesCompose, ScriptsAreRead};
+ghost use Rattle.hp_lines.specs.Sound.{CheckedAreSound, CheckedStaySound, JsonLinesFit};
 ghost use Rattle.hp_lines.specs.Snapshots.{AlikeAnswer, SnapshotsAnswer};
 
 /// Accepted lines replay as one script, whose items are those of the first line and then the accepted ones. The
@@ -35,4 +36,16 @@ pub fn snapshots_answer()
     // More generally, states that no later unit tells apart are told apart by no answer.
     ensures alike { AlikeAnswer }
     ensures snapshots { SnapshotsAnswer }
+{}
+
+/// Nothing in the runs of a checked rule base ever ends with `A3`, `A6` or `A7`: no transaction, no condition and no
+/// action, whatever is declared of signals. The numbers in its lines must have 64 bits, as all that the program reads.
+pub fn checked_lines_are_sound()
+    ensures never { CheckedAreSound }
+    // So it is of all lines of JSON.
+    ensures json { JsonLinesFit }
+
+    // What holds between two lines: values are used as what they are, chains are short enough, and all that was
+    // signalled is as declared.
+    ensures between { CheckedStaySound }
 {}

@@ -316,3 +316,43 @@ pub status_by : (left : Option (List ℕ)) (manner : L.Manner) (script : Option 
     → IfSome left (λ input. status ≡ status_of manner script input)
 status_by None manner script status is = tt
 status_by (Some input) manner script status is = is ∙ ap status_at (stage_of manner script input)
+
+-- ---- after bytes that were read ahead
+
+module _ (manner : L.Manner) (script : Option Bytes) (ahead : List ℕ) where
+  abbrev opened : L.Server
+  opened = L.opened_server manner script
+
+  -- what was written of the answers to the bytes that were read ahead is a prefix of the output
+  pub begins_ahead : (left old mid new : Option (List ℕ)) → Appends old mid (L.opening_output manner script) → Begins mid new (piece_output opened ahead)
+      → IfSome left (λ input. Begins old new (L.output manner script (ahead ++ input)))
+  begins_ahead None old mid new answered begins = tt
+  begins_ahead (Some input) old mid new answered begins =
+      let more : piece_output opened ahead ++ input_output (after opened ahead) input ≡ input_output opened (ahead ++ input) = sym (input-append opened ahead input) in
+      begins_by (Some (ahead ++ input)) old mid new manner script answered
+      (subst (Begins mid new) more (begins_more mid new (piece_output opened ahead) (input_output (after opened ahead) input) begins))
+
+  pub begins_of_none : (left old new : Option (List ℕ)) → Begins old new (L.opening_output manner script) → IfSome left (λ input. Begins old new (L.output manner script (ahead ++ input)))
+  begins_of_none None old new begins = tt
+  begins_of_none (Some input) old new begins = begins_opening (Some (ahead ++ input)) old new manner script begins
+
+  pub begins_after : (left old mid fed new : Option (List ℕ)) → Appends old mid (L.opening_output manner script) → Appends mid fed (piece_output opened ahead)
+      → IfSome left (λ input. Begins fed new (input_output (after opened ahead) input)) → IfSome left (λ input. Begins old new (L.output manner script (ahead ++ input)))
+  begins_after None old mid fed new answered out begins = tt
+  begins_after (Some input) old mid fed new answered out begins =
+      let more : piece_output opened ahead ++ input_output (after opened ahead) input ≡ input_output opened (ahead ++ input) = sym (input-append opened ahead input) in
+      begins_by (Some (ahead ++ input)) old mid new manner script answered
+      (subst (Begins mid new) more (begins_on mid fed new (piece_output opened ahead) (input_output (after opened ahead) input) out begins))
+
+  pub output_after : (left old mid fed new : Option (List ℕ)) → Appends old mid (L.opening_output manner script) → Appends mid fed (piece_output opened ahead)
+      → IfSome left (λ input. Appends fed new (input_output (after opened ahead) input)) → IfSome left (λ input. Appends old new (L.output manner script (ahead ++ input)))
+  output_after None old mid fed new answered out rest = tt
+  output_after (Some input) old mid fed new answered out rest =
+      let more : piece_output opened ahead ++ input_output (after opened ahead) input ≡ input_output opened (ahead ++ input) = sym (input-append opened ahead input) in
+      output_by (Some (ahead ++ input)) old mid new manner script answered
+      (subst (Appends mid new) more (Appends-trans mid fed new (piece_output opened ahead) (input_output (after opened ahead) input) out rest))
+
+  pub status_after : (left : Option (List ℕ)) (status : Status) → IfSome left (λ input. status ≡ status_at (stage_at_end (after opened ahead) input))
+      → IfSome left (λ input. status ≡ status_of manner script (ahead ++ input))
+  status_after None status is = tt
+  status_after (Some input) status is = status_by (Some (ahead ++ input)) manner script status (is ∙ ap status_at (sym (stage-append opened ahead input)))

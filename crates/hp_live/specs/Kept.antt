@@ -1,4 +1,5 @@
 -- What the program keeps of a rule base, and what that stands for.
+use Rattle.std.specs.Borrow.{Bor}
 use Rattle.std.specs.Prelude.{◌≡◌, ◌≢◌, ◌≤◌, ⊤, ℕ, List, ◌++◌, length, Option, string_bytes}
 use Rattle.std.specs.Option.{option_map}
 use Rattle.std.specs.declared.vec.Vec.{Vec}
@@ -7,11 +8,14 @@ use Rattle.std.specs.declared.alloc.Global.{Global}
 use Rattle.std.specs.Io.KnownBytes.{Appends, Consumes}
 use Rattle.hp_model.specs.State.{IsOrdered}
 use Rattle.hp_model.specs.Cells.{cells}
+use Rattle.hp_model.specs.Kinds as K
 use Rattle.hp_model.specs.Report.{Bytes}
 use Rattle.hp_rule.specs.Mapped.{library}
 use Rattle.hp_script.specs.Versions.{version_view}
 use Rattle.hp_store.specs.Stack.{cells_in}
 use Rattle.hp_report.specs.Device.{Begins}
+use Rattle.hp_analysis.specs.Declarations.{declared}
+use Rattle.hp_analysis.specs.declared.kinds.declaration.Declaration.{Declaration}
 use Rattle.hp_lines.specs.Live as L
 use Rattle.hp_live.specs.declared.base.RuleBase.{RuleBase}
 use Rattle.hp_live.specs.declared.options.Options.{Options}
@@ -35,12 +39,19 @@ IsStage (Up kept) (L.up base) = StandsFor kept base
 IsStage Closed L.closed = ⊤
 IsStage s t = ⊥
 
--- how lines are read and answered by a user's options
-abbrev pub manner : Options → L.Manner
-manner options = record { is_text = options.text; with_tree = options.tree }
+-- how lines are read and answered by a user's options, and by what is declared of signals, if the rule base is checked
+abbrev pub manner : Options → Option K.Declared → L.Manner
+manner options checks = record { is_text = options.text; with_tree = options.tree; checks = checks }
+
+abbrev pub declared_of : Option Declaration → Option K.Declared
+declared_of = option_map declared
+
+-- the same of a borrowed one
+abbrev pub declared_by : Option (Bor Declaration) → Option K.Declared
+declared_by = option_map (λ d. declared d.now)
 
 pub record IsServer (kept : Server) (s : L.Server) : Type 0 where
-  pub manner_is : manner kept.options ≡ s.manner
+  pub manner_is : manner kept.options (declared_of kept.checks) ≡ s.manner
   pub stage_is : IsStage kept.stage s.stage
   pub line_is : kept.line.items ≡ s.line
 

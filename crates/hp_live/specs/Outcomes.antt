@@ -1,7 +1,6 @@
 -- What becomes of a line.
 use Rattle.std.specs.Prelude.{◌≡◌, Result, Ok, Err}
 use Rattle.hp_model.specs.Report.{Bytes}
-use Rattle.hp_notation.specs.Readings.{timed_script_in, request_in}
 use Rattle.hp_lines.specs.Lines.{Line}
 use Rattle.hp_lines.specs.Live as L
 use Rattle.hp_live.specs.Kept.{Answers}
@@ -16,8 +15,8 @@ outcome_by (Ok x) = Done
 outcome_by (Err refusal) = Refused
 
 abbrev pub outcome_of : L.Manner → L.Stage → Line → Outcome
-outcome_of manner L.unopened l = outcome_by (timed_script_in manner.is_text l)
-outcome_of manner (L.up base) l = outcome_by (request_in manner.is_text base.version base.library base.clock l)
+outcome_of manner L.unopened l = outcome_by (L.script_for manner l)
+outcome_of manner (L.up base) l = outcome_by (L.request_for manner base l)
 outcome_of manner L.closed l = Closed
 
 -- the reply to a line, and the kept stage after it

@@ -8,13 +8,13 @@ use Rattle.std.specs.Prelude.{◌≡◌, ◌++◌, List, ℕ, ℤ, Bool, true, f
 use Rattle.std.specs.Fmt.{signed_decimal}
 use Rattle.hp_lines.specs.Lines.{Line}
 use Rattle.hp_lines.specs.Live as L
-use Rattle.hp_live.specs.Kept.{IsStage, manner}
+use Rattle.hp_live.specs.Kept.{IsStage, manner, declared_of}
 use Rattle.hp_live.specs.Outcomes.{outcome_of}
 use Rattle.hp_live.specs.declared.server.Outcome.{Outcome}
 use Rattle.hp_live.specs.declared.session.Session.{Session}
 
 pub record IsSession (kept : Session) (m : L.Manner) (stage : L.Stage) : Type 0 where
-  pub manner_is : manner kept.options ≡ m
+  pub manner_is : manner kept.options (declared_of kept.checks) ≡ m
   pub stage_is : IsStage kept.stage stage
   pub whole : kept.lost ≡ false
 
@@ -28,7 +28,7 @@ abbrev pub Gave : Session → Outcome → L.Manner → L.Stage → Line → Type
 Gave kept outcome m stage line = GaveBy m kept outcome m stage line
 
 abbrev pub in_json : L.Manner → L.Manner
-in_json m = record { is_text = false; with_tree = m.with_tree }
+in_json m = record { is_text = false; with_tree = m.with_tree; checks = m.checks }
 
 abbrev pub show_line : (is_text : Bool) → Line
 show_line false = codes "[\"show\"]"

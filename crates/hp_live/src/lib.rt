@@ -9,9 +9,11 @@ mod options;
 mod server;
 mod serving;
 mod session;
+mod start;
 
 pub use hp_report::{Fault, Status, exit_code};
 pub use options::Options;
 pub use server::{Outcome, Server};
 pub use serving::{run, serve};
 pub use session::Session;
+pub use start::Start;

@@ -4,17 +4,18 @@ ghost use Rattle.std.specs.Prelude.{◌≡◌, ◌≢◌, ◌↔◌, ◌++◌, L
 ghost use Rattle.std.specs.Io.KnownBytes.{Appends};
 ghost use Rattle.hp_report.specs.Device.{Begins};
 ghost use Rattle.hp_script.specs.Mapped.{timed_script};
-ghost use Rattle.hp_notation.specs.Readings.{timed_script_in};
 ghost use Rattle.hp_lines.specs.Lines.{begun};
 ghost use Rattle.hp_lines.specs.Live as L;
 ghost use Rattle.hp_live.specs.Ends.{status_at};
-ghost use Rattle.hp_live.specs.Kept.{StandsFor, IsStage, IsServer, manner, bytes_of, Answers, FirstAnswers};
+ghost use Rattle.hp_live.specs.Kept.{StandsFor, IsStage, IsServer, manner, declared_of, declared_by, bytes_of, Answers, FirstAnswers};
 ghost use Rattle.hp_live.specs.Outcomes.{Replies};
 
 use crate::base::RuleBase;
 use crate::options::Options;
+use hp_analysis::Declaration;
+use hp_checked::Reading;
 use hp_fire::Workers;
-use hp_notation::{Unread, read_request, read_script};
+use hp_notation::Unread;
 use hp_report::{Fault, Sink, Status, write_text};
 use hp_script::{Request, Schedule, Script};
 use std::alloc::{AllocError, Global};
@@ -59,6 +60,8 @@ pub(crate) struct Reply {
 #[derive(Drop)]
 pub struct Server {
     pub(crate) options: Options,
+    // What is declared of signals, if the rule base is checked.
+    pub(crate) checks: Option<Declaration>,
     pub(crate) stage: Stage,
     pub(crate) line: Vec<u8>,
 }
@@ -71,8 +74,8 @@ fn open_by<T: Workers>(
     options: Options,
 ) -> Result<(String, Stage), AllocError>
     requires ready { T.ready workers.now }
-    ensures { IfOk result (λ opened. (line : List ℕ) → timed_script_in options.text line ≡ Ok (timed_script script) →
-        Answers opened.0 opened.1 (L.answer (manner options) L.unopened line)) }
+    ensures { IfOk result (λ opened.
+        Answers opened.0 opened.1 (L.opening_answer options.tree (Ok (timed_script script)))) }
 {
     let mut base = RuleBase::new(alloc, script.version, script.library, options.workers)?;
     let schedule = Schedule {
@@ -89,11 +92,17 @@ fn open<T: Workers>(
     alloc: Global,
     line: &[u8],
     options: Options,
+    checks: Option<&Declaration>,
 ) -> Result<(Reply, Stage), AllocError>
     requires ready { T.ready workers.now }
-    ensures { IfOk result (λ opened. Replies opened.0 opened.1 (manner options) L.unopened line.now) }
+    ensures { IfOk result (λ opened.
+        Replies opened.0 opened.1 (manner options (declared_by checks.entry)) L.unopened line.now) }
 {
-    match read_script(alloc, line, options.text) {
+    let reading = Reading {
+        is_text: options.text,
+        checks,
+    };
+    match reading.script(alloc, line) {
         Ok(script) => {
             let (text, stage) = open_by(workers, alloc, script, options)?;
             Ok((Reply::done(text), stage))
@@ -110,19 +119,17 @@ fn answer_later<T: Workers>(
     base: &mut RuleBase,
     line: &[u8],
     options: Options,
+    checks: Option<&Declaration>,
 ) -> Result<Reply, AllocError>
     requires ready { T.ready workers.now }
-    ensures { IfOk result (λ reply. (now : L.RuleBase) →
-        StandsFor base.old now → Replies reply (Stage.Up base.new) (manner options) (L.up now) line.now) }
+    ensures { IfOk result (λ reply. (now : L.RuleBase) → StandsFor base.old now →
+        Replies reply (Stage.Up base.new) (manner options (declared_by checks.entry)) (L.up now) line.now) }
 {
-    match read_request(
-        alloc,
-        base.version,
-        &base.library,
-        base.clock,
-        line,
-        options.text,
-    ) {
+    let reading = Reading {
+        is_text: options.text,
+        checks,
+    };
+    match reading.request(alloc, base.version, &base.library, base.clock, line) {
         Ok(Request::Item(schedule)) => {
             Ok(Reply::done(base.run(workers, alloc, schedule, options)?))
         }
@@ -139,18 +146,19 @@ pub(crate) fn answer_at<T: Workers>(
     stage: &mut Stage,
     line: &[u8],
     options: Options,
+    checks: Option<&Declaration>,
 ) -> Result<Reply, AllocError>
     requires ready { T.ready workers.now }
-    ensures { IfOk result (λ reply. (now : L.Stage) →
-        IsStage stage.old now → Replies reply stage.new (manner options) now line.now) }
+    ensures { IfOk result (λ reply. (now : L.Stage) → IsStage stage.old now →
+        Replies reply stage.new (manner options (declared_by checks.entry)) now line.now) }
 {
     match stage {
         Stage::Unopened => {
-            let (reply, opened) = open(workers, alloc, line, options)?;
+            let (reply, opened) = open(workers, alloc, line, options, checks)?;
             *stage = opened;
             Ok(reply)
         }
-        Stage::Up(base) => answer_later(workers, alloc, base, line, options),
+        Stage::Up(base) => answer_later(workers, alloc, base, line, options, checks),
         Stage::Closed => Ok(Reply {
             text: String::new(alloc),
             outcome: Outcome::Closed,
@@ -183,12 +191,13 @@ impl Reply {
 }
 
 impl Server {
-    /// A server before the first line.
-    pub fn new(alloc: Global, options: Options) -> Server
-        ensures { IsServer result (L.new_server (manner options)) }
+    /// A server before the first line. Its rule base will be checked, if there is a declaration.
+    pub fn new(alloc: Global, options: Options, checks: Option<Declaration>) -> Server
+        ensures { IsServer result (L.new_server (manner options (declared_of checks))) }
     {
         Server {
             options,
+            checks,
             stage: Stage::Unopened,
             line: Vec::new(alloc),
         }
@@ -196,6 +205,7 @@ impl Server {
 
     /// A server that has answered a script's file, if there is one. The bytes of the file are answered as a first line
     /// is, and may be on many lines; then the first line of the input is an item. Without a file it is a new server.
+    /// The rule base is checked, if there is a declaration.
     ///
     /// The writer must not have failed before. After an error what was written is a prefix of the answer; after
     /// `Fault::NoMemory` it is nothing.
@@ -203,24 +213,25 @@ impl Server {
         workers: &T,
         alloc: Global,
         script: Option<Vec<u8>>,
+        checks: Option<Declaration>,
         writer: &mut W,
         options: Options,
     ) -> Result<Server, Fault>
         requires ready { T.ready workers.now }
         requires writer { W.has_failed writer.old ≡ false }
         ensures output { OnOk result (Appends (W.contents writer.old) (W.contents writer.new)
-            (L.opening_output (manner options) (bytes_of script))) }
-        ensures next { IfOk result (λ server. IsServer server (L.opened_server (manner options) (bytes_of script))) }
+            (L.opening_output (manner options (declared_of checks)) (bytes_of script))) }
+        ensures next { IfOk result (λ server. IsServer server (L.opened_server (manner options (declared_of checks)) (bytes_of script))) }
         ensures begins { Begins (W.contents writer.old) (W.contents writer.new)
-            (L.opening_output (manner options) (bytes_of script)) }
+            (L.opening_output (manner options (declared_of checks)) (bytes_of script)) }
         ensures memory { result ≡ Err Fault.NoMemory → writer.new ≡ writer.old }
         ensures write { result ≡ Err Fault.Write ↔ (W.has_failed writer.new ≡ true) }
         ensures whole { OnOk result (W.has_failed writer.new ≡ false) }
         ensures read { result ≢ Err Fault.Read }
     {
         match script {
-            Some(file) => Server::open_by_file(workers, alloc, file, writer, options),
-            None => Ok(Server::new(alloc, options)),
+            Some(file) => Server::open_by_file(workers, alloc, file, checks, writer, options),
+            None => Ok(Server::new(alloc, options, checks)),
         }
     }
 
@@ -229,16 +240,17 @@ impl Server {
         workers: &T,
         alloc: Global,
         file: Vec<u8>,
+        checks: Option<Declaration>,
         writer: &mut W,
         options: Options,
     ) -> Result<Server, Fault>
         requires ready { T.ready workers.now }
         requires writer { W.has_failed writer.old ≡ false }
         ensures output { OnOk result (Appends (W.contents writer.old) (W.contents writer.new)
-            (L.opening_output (manner options) (Some file.items))) }
-        ensures next { IfOk result (λ server. IsServer server (L.opened_server (manner options) (Some file.items))) }
+            (L.opening_output (manner options (declared_of checks)) (Some file.items))) }
+        ensures next { IfOk result (λ server. IsServer server (L.opened_server (manner options (declared_of checks)) (Some file.items))) }
         ensures begins { Begins (W.contents writer.old) (W.contents writer.new)
-            (L.opening_output (manner options) (Some file.items)) }
+            (L.opening_output (manner options (declared_of checks)) (Some file.items)) }
         ensures memory { result ≡ Err Fault.NoMemory → writer.new ≡ writer.old }
         ensures write { result ≡ Err Fault.Write ↔ (W.has_failed writer.new ≡ true) }
         ensures whole { OnOk result (W.has_failed writer.new ≡ false) }
@@ -247,6 +259,7 @@ impl Server {
         let stage = Stage::Unopened;
         let mut server = Server {
             options,
+            checks,
             stage,
             line: file,
         };
@@ -271,7 +284,15 @@ impl Server {
         ensures text { IfOk result (λ text. (s : L.Server) → IsServer self.old s → string_bytes text ≡ L.reply s) }
         ensures next { OnOk result ((s : L.Server) → IsServer self.old s → IsServer self.new (L.answered s)) }
     {
-        let reply = answer_at(workers, alloc, &mut self.stage, &self.line, self.options)?;
+        let checks = self.checks.as_ref();
+        let reply = answer_at(
+            workers,
+            alloc,
+            &mut self.stage,
+            &self.line,
+            self.options,
+            checks,
+        )?;
         self.line.clear();
         Ok(reply.text)
     }

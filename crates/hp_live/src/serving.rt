@@ -1,29 +1,30 @@
 //! A whole run.
 
-ghost use Rattle.std.specs.Prelude.{◌≡◌, ◌≢◌, ◌↔◌, OnOk, IfOk, IfSome, true, false};
+ghost use Rattle.std.specs.Prelude.{◌≡◌, ◌≢◌, ◌↔◌, ◌++◌, OnOk, IfOk, IfSome, true, false};
 ghost use Rattle.std.specs.Io.KnownBytes.{Appends};
 ghost use Rattle.hp_report.specs.Device.{Begins};
 ghost use Rattle.hp_lines.specs.Live as L;
 ghost use Rattle.hp_live.specs.Kept.{IsServer, AllAnswered, WholeAnswers, AnswersBegun, StopsAtRefusal};
-ghost use Rattle.hp_live.specs.Kept.{manner, bytes_of};
+ghost use Rattle.hp_live.specs.Kept.{manner, declared_of, bytes_of};
 ghost use Rattle.hp_live.specs.Ends.{status_at, status_of};
 
 use crate::options::Options;
 use crate::server::Server;
+use crate::start::Start;
 use hp_fire::ByThreads;
 use hp_report::{Fault, Sink, Source, Status};
 use std::alloc::Global;
 use std::thread::Threads;
 
-/// Answers the script's file, if there is one, and then the lines of the reader up to its end. It ends early if the
-/// script is refused.
+/// Answers the script's file, if there is one, and then the lines of the input up to its end: of the bytes that have
+/// been read ahead, and those of the reader. It ends early if the script is refused.
 ///
 /// The reader and the writer must not have failed before. After a fault what was written is a prefix of the answers;
 /// `serve` says which answers are whole. No call of a device is repeated.
 pub fn run<T: Threads + Sync, R: Source, W: Sink>(
     rt: &T,
     alloc: Global,
-    script: Option<Vec<u8>>,
+    start: Start,
     reader: &mut R,
     writer: &mut W,
     options: Options,
@@ -32,24 +33,32 @@ pub fn run<T: Threads + Sync, R: Source, W: Sink>(
     requires writer { W.has_failed writer.old ≡ false }
 
     // On `Ok` it has written the definition's answers for the file and all bytes up to the reader's end.
-    ensures output { OnOk result (IfSome (R.remaining reader.old) (λ input. Appends
-        (W.contents writer.old) (W.contents writer.new) (L.output (manner options) (bytes_of script) input))) }
-    ensures status { IfOk result (λ status. IfSome (R.remaining reader.old) (λ input.
-        status ≡ status_of (manner options) (bytes_of script) input)) }
+    ensures output { OnOk result (IfSome (R.remaining reader.old) (λ input.
+        Appends (W.contents writer.old) (W.contents writer.new)
+        (L.output (manner options (declared_of start.checks)) (bytes_of start.script) (start.ahead.items ++ input)))) }
+    ensures status { IfOk result (λ status. IfSome (R.remaining reader.old) (λ input. status
+        ≡ status_of (manner options (declared_of start.checks)) (bytes_of start.script) (start.ahead.items ++ input))) }
 
     // However it ends, what was written is a prefix of these answers.
-    ensures begins { IfSome (R.remaining reader.old) (λ input. Begins
-        (W.contents writer.old) (W.contents writer.new) (L.output (manner options) (bytes_of script) input)) }
+    ensures begins { IfSome (R.remaining reader.old) (λ input. Begins (W.contents writer.old) (W.contents writer.new)
+        (L.output (manner options (declared_of start.checks)) (bytes_of start.script) (start.ahead.items ++ input))) }
 
     // If the file's script is refused, nothing is read.
-    ensures unread { (L.opened_server (manner options) (bytes_of script)).stage ≡ L.closed → reader.new ≡ reader.old }
+    ensures unread { (L.opened_server (manner options (declared_of start.checks)) (bytes_of start.script)).stage
+        ≡ L.closed → reader.new ≡ reader.old }
 
     // It returns a fault of a device exactly if a call has failed.
     ensures read { result ≡ Err Fault.Read ↔ (R.has_failed reader.new ≡ true) }
     ensures write { result ≡ Err Fault.Write ↔ (W.has_failed writer.new ≡ true) }
 {
     let workers = ByThreads::new(rt);
-    let server = Server::open(&workers, alloc, script, writer, options)?;
+    let Start {
+        script,
+        checks,
+        ahead,
+    } = start;
+    let server = Server::open(&workers, alloc, script, checks, writer, options)?;
+    let server = server.feed(&workers, alloc, writer, &ahead)?;
     let status = serve(rt, alloc, server, reader, writer)?;
     Ok(status)
 }

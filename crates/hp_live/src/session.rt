@@ -2,11 +2,12 @@
 
 ghost use Rattle.std.specs.Prelude.{◌≡◌, [], IfOk, OnOk, OnErr, true, false};
 ghost use Rattle.hp_lines.specs.Live as L;
-ghost use Rattle.hp_live.specs.Kept.{manner};
+ghost use Rattle.hp_live.specs.Kept.{manner, declared_of};
 ghost use Rattle.hp_live.specs.Sessions.{IsSession, Gave, GaveBy, in_json, show_line, get_line};
 
 use crate::options::Options;
 use crate::server::{Outcome, Stage, answer_at};
+use hp_analysis::Declaration;
 use hp_fire::Alone;
 use std::alloc::{AllocError, Global};
 use std::fmt::Write;
@@ -18,6 +19,8 @@ use std::fmt::Write;
 #[derive(Drop)]
 pub struct Session {
     pub(crate) options: Options,
+    // What is declared of signals, if the rule base is checked.
+    pub(crate) checks: Option<Declaration>,
     pub(crate) stage: Stage,
     /// The answer to the last line.
     pub answer: Vec<u8>,
@@ -26,13 +29,16 @@ pub struct Session {
 }
 
 impl Session {
-    /// A session that has answered a script, which may be the bytes of a file. A refused script closes it.
+    /// A session that has answered a script, which may be the bytes of a file. A refused script closes it. The rule
+    /// base is checked, if there is a declaration.
     pub fn open(
         alloc: Global,
         script: &[u8],
         options: Options,
+        checks: Option<Declaration>,
     ) -> Result<(Session, Outcome), AllocError>
-        ensures { IfOk result (λ opened. Gave opened.0 opened.1 (manner options) L.unopened script.now) }
+        ensures { IfOk result (λ opened.
+            Gave opened.0 opened.1 (manner options (declared_of checks)) L.unopened script.now) }
     {
         let mut session = Session {
             options: Options {
@@ -40,6 +46,7 @@ impl Session {
                 tree: options.tree,
                 text: options.text,
             },
+            checks,
             stage: Stage::Unopened,
             answer: Vec::new(alloc),
             lost: false,
@@ -107,7 +114,8 @@ impl Session {
         options: Options,
     ) -> Result<Outcome, AllocError>
         ensures answer { IfOk result (λ outcome. (m : L.Manner) (now : L.Stage) →
-            IsSession self.old m now → GaveBy (manner options) self.new outcome m now line.now) }
+            IsSession self.old m now →
+            GaveBy (manner options (declared_of self.old.checks)) self.new outcome m now line.now) }
         ensures once { OnOk result (self.old.lost ≡ false) }
         ensures lost { OnErr result (self.new.lost ≡ true) }
         ensures nothing { OnErr result (self.new.answer.items ≡ []) }
@@ -117,7 +125,8 @@ impl Session {
             return Err(AllocError);
         }
         self.lost = true;
-        let reply = answer_at(&Alone, alloc, &mut self.stage, line, options)?;
+        let checks = self.checks.as_ref();
+        let reply = answer_at(&Alone, alloc, &mut self.stage, line, options, checks)?;
         self.answer = reply.text.into_bytes();
         self.lost = false;
         Ok(reply.outcome)

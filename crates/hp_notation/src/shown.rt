@@ -8,7 +8,6 @@ ghost use Rattle.hp_notation.specs.Mapped.{placed_refusal};
 
 use crate::refusal::TextRefusal;
 use hp_script::Refusal;
-use hp_text::Place;
 use std::alloc::{AllocError, Global};
 use std::fmt;
 
@@ -38,7 +37,7 @@ impl fmt::Display for TextRefusal {
     fn fmt<W: fmt::Write>(&self, f: &mut fmt::Formatter<W>) -> fmt::Result {
         let reason = Reason(&self.refusal);
         match self.place {
-            Some(Place { line, column }) => write!(f, "{reason} {line}:{column}"),
+            Some(place) => write!(f, "{reason} {place}"),
             None => write!(f, "{reason}"),
         }
     }

@@ -1,8 +1,9 @@
 //! Predicates that begin by asking for a part of a class.
 
-ghost use Rattle.std.specs.Prelude.{◌≡◌, ◌&&◌, true, IfOk, IfSome, IsOk, None, option_map};
+ghost use Rattle.std.specs.Prelude.{◌≡◌, ◌&&◌, true, Bool, IfOk, IfNone, IfSome, IsOk, None, option_map};
 ghost use Rattle.std.specs.Option.{option_copied};
 ghost use Rattle.hp_model.specs.Expressions.{compared};
+ghost use Rattle.hp_model.specs.Values.{boolean};
 ghost use Rattle.hp_value.specs.Mapped.{attribute, class_part, comparison, environment, expression, value};
 ghost use Rattle.hp_query.specs.Parts.{IsFalseOutside, IsTrueInside, AsksForPart, Compares, expression_of};
 ghost use Rattle.hp_query.specs.ByKey.{first_test};
@@ -37,9 +38,10 @@ impl AskedPart<'_> {
     ///
     /// Both bounds are inclusive, whatever the comparison is.
     pub(crate) fn class_part(&self) -> Option<ClassPart<'_>>
-        ensures { IfSome result (λ part.
+        ensures part { IfSome result (λ part.
             class_part part
             ≡ part_compared (attribute self.now.attribute) (comparison self.now.comparison) (value self.now.value)) }
+        ensures none { IfNone result ((b : Bool) × (value self.now.value ≡ boolean b)) }
     {
         let bounds = match &self.value {
             Value::Int(number) => {

@@ -1,7 +1,8 @@
 //! Places in a text.
 
-ghost use Rattle.std.specs.Prelude.{◌≡◌, ◌+◌, ◌<◌, ◌≤◌, ◌^◌, fold};
+ghost use Rattle.std.specs.Prelude.{◌≡◌, ◌+◌, ◌<◌, ◌≤◌, ◌^◌, Some, fold};
 ghost use Rattle.hp_model.specs.NotationPlaces as P;
+ghost use Rattle.hp_model.specs.Output.{place_text};
 ghost use Rattle.hp_text.specs.Places.{place_view};
 
 use std::fmt;
@@ -14,6 +15,8 @@ pub struct Place {
 }
 
 impl fmt::Display for Place {
+    ghost output = { λ p. Some (place_text (place_view p)) };
+
     fn fmt<W: fmt::Write>(&self, f: &mut fmt::Formatter<W>) -> fmt::Result {
         let line = self.line;
         let column = self.column;

@@ -26,13 +26,21 @@ flag_rule name = record (new_rule name) { long = Some name; action = Some SetTru
 abbrev pub script_rule : Rule
 script_rule = record (new_rule (codes "script")) { long = Some (codes "script") }
 
+-- `--signals FILE`
+abbrev pub signals_rule : Rule
+signals_rule = record (new_rule (codes "signals")) { long = Some (codes "signals") }
+
 -- a command with `[--workers N] [--tree] [--text]`, whose name no text shows
 abbrev pub plain_app : App
 plain_app = with_rule (with_rule (with_rule (new_app (codes "program")) workers_rule) (flag_rule (codes "tree"))) (flag_rule (codes "text"))
 
--- the same with `[--script FILE]`, for a program that takes it
+-- the same with `[--script FILE] [--checked] [--signals FILE]`
+abbrev pub live_app : App
+live_app = with_rule (with_rule (with_rule plain_app script_rule) (flag_rule (codes "checked"))) signals_rule
+
+-- the command of a program that takes a script's file, or doesn't
 abbrev pub app : (takes_script : Bool) → App
-app takes_script = if takes_script then with_rule plain_app script_rule else plain_app
+app takes_script = if takes_script then live_app else plain_app
 
 -- the row of each argument
 unfoldable pub rows_for : (takes_script : Bool) → List (List ℕ) → List Row
@@ -73,13 +81,25 @@ options_for takes_script words = accepted (faults_for takes_script words) (optio
 abbrev pub script_for : List (List ℕ) → Option (List ℕ)
 script_for words = first_of (codes "script") (rows_for true words)
 
+-- whether the rule base is checked
+abbrev pub checked_for : List (List ℕ) → Bool
+checked_for words = has_flag (codes "checked") (rows_for true words)
+
+-- the name of the file of signals
+abbrev pub declared_for : List (List ℕ) → Option (List ℕ)
+declared_for words = first_of (codes "signals") (rows_for true words)
+
 -- the options of some command line
 abbrev pub AreOfWords : Options → Type 0
 AreOfWords options = (words : List (List ℕ)) × (options_for false words ≡ Some options)
 
--- the options and the script's file of some command line
-abbrev pub AreOfLiveWords : Options → Option (List ℕ) → Type 0
-AreOfLiveWords options script = (words : List (List ℕ)) × (options_for true words ≡ Some options) × (script ≡ script_for words)
+-- the options of some command line, its script's file, whether the rule base is checked, and the file of signals
+pub record AreOfLiveWords (options : Options) (script : Option (List ℕ)) (checked : Bool) (signals : Option (List ℕ)) : Type 0 where
+  pub words : List (List ℕ)
+  pub options_are : options_for true words ≡ Some options
+  pub script_is : script ≡ script_for words
+  pub checked_is : checked ≡ checked_for words
+  pub signals_are : signals ≡ declared_for words
 
 -- the program's exit status without options
 abbrev pub word_code_of : WordFault → ℕ

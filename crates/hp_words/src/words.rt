@@ -5,7 +5,7 @@ ghost use Rattle.std.specs.Option.{option_map};
 ghost use Rattle.clap.specs.Words.{one_of, first_of, rows_of, found_of, rule_of, app_of, kind_of, FailsBy};
 ghost use Rattle.hp_words.specs.Words.{app, plain_app, rows_for, faults_for, flag_rule, number_in, flag_in};
 ghost use Rattle.hp_words.specs.Words.{options_in, options_for};
-ghost use Rattle.hp_words.specs.Words.{script_for, AreOfWords, AreOfLiveWords, word_code_of};
+ghost use Rattle.hp_words.specs.Words.{script_for, checked_for, declared_for, AreOfWords, AreOfLiveWords, word_code_of};
 ghost use Rattle.hp_words.specs.declared.words.WordFault.TheVariants.{NoMemory};
 
 use clap::error::ErrorKind;
@@ -32,6 +32,10 @@ pub struct LiveOptions {
     pub options: Options,
     /// The name of the file that has the script, if one is given. Else the first line is the script.
     pub script: Option<String>,
+    /// Whether the rule base refuses what could ever end with `A3`, `A6` or `A7`.
+    pub checked: bool,
+    /// The name of the file that declares signals, if one is given.
+    pub signals: Option<String>,
 }
 
 /// Why there are no options.
@@ -66,25 +70,36 @@ pub fn parse_words(alloc: Global, words: &[String]) -> Result<Options, WordFault
     }
 }
 
-/// The options of a rule base that stays up, whose words may name the file of its script.
+/// The options of a rule base that stays up, whose words may name the file of its script and one of signals, and ask
+/// that it is checked.
 pub fn parse_live_words(alloc: Global, words: &[String]) -> Result<LiveOptions, WordFault>
     ensures ok { IfOk result (λ live. options_for true (map string_bytes words.now) ≡ Some live.options) }
     ensures script { IfOk result (λ live.
         option_map string_bytes live.script ≡ script_for (map string_bytes words.now)) }
+    ensures checked { IfOk result (λ live. live.checked ≡ checked_for (map string_bytes words.now)) }
+    ensures signals { IfOk result (λ live.
+        option_map string_bytes live.signals ≡ declared_for (map string_bytes words.now)) }
     ensures refused { result ≡ Err WordFault.Refused → options_for true (map string_bytes words.now) ≡ None }
 {
     match matches_of(alloc, words, true) {
         Ok(matches) => {
             let options = options_in(&matches)?;
-            let script = script_in(alloc, &matches)?;
-            Ok(LiveOptions { options, script })
+            let checked = flag_in(&matches, "checked");
+            let script = value_in(alloc, &matches, "script")?;
+            let signals = value_in(alloc, &matches, "signals")?;
+            Ok(LiveOptions {
+                options,
+                script,
+                checked,
+                signals,
+            })
         }
         Err(error) => Err(fault_by(&error)),
     }
 }
 
 /// The words that the process was started with.
-fn own_words<R: Env + AllocGlobal>(rt: &R) -> Result<Vec<String>, WordFault>
+pub fn own_words<R: Env + AllocGlobal>(rt: &R) -> Result<Vec<String>, WordFault>
     ensures { IfErr result (λ fault. fault ≡ WordFault.NoMemory) }
 {
     let Ok(words) = env::args(rt) else {
@@ -108,7 +123,8 @@ pub fn options_of<R: Env + AllocGlobal>(rt: &R) -> Result<Options, WordFault>
 /// The options that the process of a rule base that stays up was started with. The contract says that they are those
 /// of some words.
 pub fn live_options_of<R: Env + AllocGlobal>(rt: &R) -> Result<LiveOptions, WordFault>
-    ensures { IfOk result (λ live. AreOfLiveWords live.options (option_map string_bytes live.script)) }
+    ensures { IfOk result (λ live. AreOfLiveWords live.options
+        (option_map string_bytes live.script) live.checked (option_map string_bytes live.signals)) }
 {
     let words = own_words(rt)?;
     parse_live_words(rt.alloc(), words.as_slice())
@@ -125,7 +141,7 @@ pub fn word_code(fault: WordFault) -> u8
 }
 
 /// An argument `--NAME` without a value.
-fn flag(alloc: Global, name: &str) -> Arg<'_>
+pub(crate) fn flag(alloc: Global, name: &str) -> Arg<'_>
     ensures rule { rule_of result ≡ flag_rule name.entry.now }
     ensures local { result.global ≡ false }
 {
@@ -148,13 +164,17 @@ fn plain_command<'a>(alloc: Global) -> Result<Command<'a>, AllocError>
         .arg(text)
 }
 
-/// The command, which takes the name of a script's file if `takes_script` says so.
+/// The command, which takes the names of a script's file and of one of signals, and `--checked`, if `takes_script` says
+/// so.
 fn command_for<'a>(alloc: Global, takes_script: bool) -> Result<Command<'a>, AllocError>
     ensures { IfOk result (λ command. app_of command ≡ app takes_script) }
 {
     let command = plain_command(alloc)?;
     if takes_script {
-        return command.arg(Arg::new(alloc, "script").long("script"));
+        let script = Arg::new(alloc, "script").long("script");
+        let checked = flag(alloc, "checked");
+        let signals = Arg::new(alloc, "signals").long("signals");
+        return command.arg(script)?.arg(checked)?.arg(signals);
     }
     Ok(command)
 }
@@ -173,7 +193,7 @@ fn matches_of<'a>(
 }
 
 /// Why `clap` gave no matches.
-fn fault_by(error: &Error) -> WordFault
+pub(crate) fn fault_by(error: &Error) -> WordFault
     ensures { result ≡ WordFault.Refused → kind_of error.now ≢ ErrorKind.OutOfMemory }
 {
     match error.kind() {
@@ -209,19 +229,23 @@ fn workers_in(matches: &ArgMatches<'_>) -> u8
 }
 
 /// Whether the matches have a flag.
-fn flag_in(matches: &ArgMatches<'_>, name: &str) -> bool
+pub(crate) fn flag_in(matches: &ArgMatches<'_>, name: &str) -> bool
     ensures { result ≡ flag_in (one_of name.now (rows_of (found_of matches.entry.now))) }
 {
     matches.get_one::<bool>(name).unwrap_or(false)
 }
 
-/// The file's name in the matches, if there is one.
-fn script_in(alloc: Global, matches: &ArgMatches<'_>) -> Result<Option<String>, AllocError>
-    ensures { IfOk result (λ name.
-        option_map string_bytes name ≡ first_of (codes "script") (rows_of (found_of matches.entry.now))) }
+/// The value of the argument `--NAME` in the matches, if there is one.
+pub(crate) fn value_in(
+    alloc: Global,
+    matches: &ArgMatches<'_>,
+    name: &str,
+) -> Result<Option<String>, AllocError>
+    ensures { IfOk result (λ value.
+        option_map string_bytes value ≡ first_of name.now (rows_of (found_of matches.entry.now))) }
 {
-    match matches.get_str("script") {
-        Some(name) => Ok(Some(String::from_str(alloc, name)?)),
+    match matches.get_str(name) {
+        Some(value) => Ok(Some(String::from_str(alloc, value)?)),
         None => Ok(None),
     }
 }

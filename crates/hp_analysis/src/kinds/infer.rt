@@ -5,6 +5,9 @@ mod gather;
 mod reads;
 mod solve;
 
+ghost use Rattle.std.specs.Prelude.{◌≡◌, IfOk, OnOk};
+ghost use Rattle.hp_analysis.specs.Declarations.{declared, Keeps};
+
 use crate::kinds::declaration::Declaration;
 use crate::kinds::infer::gather::Gathering;
 use crate::kinds::infer::reads::reads_parts;
@@ -15,7 +18,9 @@ use hp_value::RuleNo;
 use std::alloc::{AllocError, Global};
 
 /// Lets statements fire the rules that read no part of their occurrence.
-fn allow_plain_rules(library: &Library, declaration: &mut Declaration) -> Result<(), AllocError> {
+fn allow_plain_rules(library: &Library, declaration: &mut Declaration) -> Result<(), AllocError>
+    ensures { OnOk result ((declared declaration.new).signatures ≡ (declared declaration.old).signatures) }
+{
     let mut number: RuleNo = 0;
     for rule in library.rules() {
         if !reads_parts(rule) {
@@ -26,18 +31,32 @@ fn allow_plain_rules(library: &Library, declaration: &mut Declaration) -> Result
     Ok(())
 }
 
-/// A declaration for a library and the units of its script.
+/// A declaration for a library and the units of its script, as `infer_with` finds it where nothing is given.
 ///
-/// A signal is declared with the arguments that rules use. An argument has the kind that its uses want; if they want
-/// none, but compare it, the kind that most statements give it. One that is only passed on or emitted has any kind.
-/// Statements may fire the rules that read no part of their occurrence.
+/// An error means that memory ran out.
+pub fn infer(alloc: Global, library: &Library, units: &[Unit]) -> Result<Inferred, AllocError> {
+    infer_with(alloc, library, units, Declaration::new(alloc))
+}
+
+/// A declaration for a library and the units of its script, in which the signals that are given keep their signatures.
+///
+/// Another signal is declared with the arguments that rules use. An argument has the kind that its uses want; if they
+/// want none, but compare it, the kind that most statements give it. One that is only passed on or emitted has any
+/// kind. Statements may fire the rules that read no part of their occurrence, and those that `given` lets them fire.
 ///
 /// What a check promises holds for each declaration. So a wrong guess can only make a check refuse what it need not.
 ///
 /// An error means that memory ran out.
-pub fn infer(alloc: Global, library: &Library, units: &[Unit]) -> Result<Inferred, AllocError> {
-    let gathering = Gathering::of(alloc, library, units)?;
-    let mut inferred = solved(alloc, gathering.arguments)?;
+pub fn infer_with(
+    alloc: Global,
+    library: &Library,
+    units: &[Unit],
+    given: Declaration,
+) -> Result<Inferred, AllocError>
+    ensures { IfOk result (λ inferred. Keeps (declared given) (declared inferred.declaration)) }
+{
+    let gathering = Gathering::of(alloc, library, units, &given)?;
+    let mut inferred = solved(alloc, gathering.arguments, given)?;
     allow_plain_rules(library, &mut inferred.declaration)?;
     Ok(inferred)
 }

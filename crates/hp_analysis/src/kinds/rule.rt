@@ -1,35 +1,56 @@
 //! What is refused of rules.
 
 ghost use Rattle.std.specs.Prelude.{◌≡◌, IfOk, OnOk, map};
-ghost use Rattle.hp_query.specs.Mapped.{entry};
+ghost use Rattle.hp_query.specs.Mapped.{entry, query};
 ghost use Rattle.hp_model.specs.Kinds.{query_classes, with_entries};
 ghost use Rattle.hp_rule.specs.Statements.{rule};
 ghost use Rattle.hp_rule.specs.Places.{steps};
 ghost use Rattle.hp_analysis.specs.Findings as model;
-ghost use Rattle.hp_analysis.specs.Kinded.{Passes, Notes};
+ghost use Rattle.hp_analysis.specs.Kinded.{Notes};
 ghost use Rattle.hp_analysis.specs.Bases as bases;
 ghost use Rattle.hp_analysis.specs.Places.{columns};
 ghost use Rattle.hp_analysis.specs.Scopes.{library, declared, scope_in, scope_there, scope_after_entry};
 
-use crate::kinds::aggregate::check_test;
-use crate::kinds::finding::{Finding, KindError, note};
+use crate::kinds::finding::{Finding, note};
 use crate::kinds::occurred::Occurred;
 use crate::kinds::scope::{Base, Scope};
 use crate::kinds::sorts::NamedSort;
 use crate::kinds::statement::{check_value, find_in_body, held_sort};
-use hp_query::Entry;
+use crate::kinds::test::find_in_test;
+use hp_query::{Entry, Query};
 use hp_rule::{Place, Rule};
 use std::alloc::AllocError;
 
-/// Checks an entry of a rule's condition.
-fn check_entry(scope: &Scope<'_>, place: &Place<'_>, checked: &Entry) -> Result<(), KindError>
-    ensures { Passes result (model.entry_check (library scope.now) (declared scope.now) (scope_in scope.now)
-        (steps place.now) (entry checked.now)) }
+/// Adds what is refused of the predicate of a query, which stands at the place.
+fn find_in_query(
+    scope: &Scope<'_>,
+    place: &Place<'_>,
+    asked: &Query,
+    notes: &mut Vec<Finding>,
+) -> Result<(), AllocError>
+    ensures { OnOk result (Notes notes.old notes.new (model.query_findings (library scope.now) (declared scope.now)
+        (scope_in scope.now) (steps place.now) (query asked.now))) }
+{
+    let inner = scope.bound(asked.name.as_str(), asked.class);
+    find_in_test(&inner, place, &asked.predicate, notes)
+}
+
+/// Adds what is refused of an entry of a rule's condition.
+fn find_in_entry(
+    scope: &Scope<'_>,
+    place: &Place<'_>,
+    checked: &Entry,
+    notes: &mut Vec<Finding>,
+) -> Result<(), AllocError>
+    ensures { OnOk result (Notes notes.old notes.new (model.entry_findings (library scope.now) (declared scope.now)
+        (scope_in scope.now) (steps place.now) (entry checked.now))) }
 {
     match checked {
-        Entry::Query(asked) => check_test(scope, &place.item(2), asked),
-        Entry::No(asked) => check_test(scope, &place.item(3), asked),
-        Entry::Let { aggregate, .. } => check_value(scope, &place.item(2), aggregate),
+        Entry::Query(asked) => find_in_query(scope, &place.item(2), asked, notes),
+        Entry::No(asked) => find_in_query(scope, &place.item(3), asked, notes),
+        Entry::Let { aggregate, .. } => {
+            note(notes, check_value(scope, &place.item(2), aggregate))
+        }
     }
 }
 
@@ -52,20 +73,21 @@ fn named_sort(
     }
 }
 
-/// Checks the entry of a rule's condition after these entries, with the sorts of their values.
-fn check_next(
+/// Adds what is refused of the entry of a rule's condition after these entries, with the sorts of their values.
+fn find_in_next(
     occurred: &Occurred<'_>,
     before: &[Entry],
     found: &[NamedSort],
     place: &Place<'_>,
     next: &Entry,
-) -> Result<(), KindError>
+    notes: &mut Vec<Finding>,
+) -> Result<(), AllocError>
     ensures { let there = scope_there (columns occurred.now.columns) (map entry before.now) found.now in
-        Passes result (model.entry_check (bases.library occurred.now.base) (bases.declared occurred.now.base)
-        there (steps place.now) (entry next.now)) }
+        OnOk result (Notes notes.old notes.new (model.entry_findings (bases.library occurred.now.base)
+        (bases.declared occurred.now.base) there (steps place.now) (entry next.now))) }
 {
     let scope = occurred.asked(before, found);
-    check_entry(&scope, place, next)
+    find_in_entry(&scope, place, next, notes)
 }
 
 /// The value of the entry of a rule's condition after these entries, with the sorts of their values.
@@ -103,7 +125,7 @@ fn find_in_condition(
     for (i, entry) in entries.iter().enumerate() {
         let here = place.item(i);
         let before = &entries[..i];
-        note(notes, check_next(occurred, before, &found, &here, entry))?;
+        find_in_next(occurred, before, &found, &here, entry, notes)?;
         if let Some(named) = next_value(occurred, before, &found, &here, entry)? {
             found.push(named)?;
         }

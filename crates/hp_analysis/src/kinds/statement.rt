@@ -22,6 +22,7 @@ use crate::kinds::part::{fields_of, kind_in};
 use crate::kinds::rows::first_class;
 use crate::kinds::scope::Scope;
 use crate::kinds::sort::Sort;
+use crate::kinds::test::find_in_test;
 use hp_query::Aggregate;
 use hp_rule::{Assignment, Place, Stmt};
 use hp_value::{ClassNo, Expr, Field, Kind};
@@ -302,28 +303,19 @@ fn check_query_name(scope: &Scope<'_>, place: &Place<'_>, query: &str) -> Result
     }
 }
 
-/// Checks what a statement itself evaluates or names, where that is one thing.
+/// Checks what a statement itself evaluates or names, where that is one thing and no test.
 fn check_single(s: &Stmt, scope: &Scope<'_>, place: &Place<'_>) -> Result<(), KindError>
     ensures { Passes result (single_there scope.now (steps place.now) (statement s.now)) }
 {
     match s {
         Stmt::Delete { key, .. } => check_kind(scope, &place.item(2), Kind::Int, key),
         Stmt::Emit(value) | Stmt::Veto(Some(value)) => check_emission(scope, place, value),
-        Stmt::If { condition, .. } => check_kind(scope, &place.item(1), Kind::Bool, condition),
-        Stmt::Each {
-            variable,
-            class,
-            predicate,
-            ..
-        } => {
-            let inner = (&*scope).bound(variable, *class);
-            check_kind(&inner, &place.item(3), Kind::Bool, predicate)
-        }
         Stmt::For { query, .. } => check_query_name(scope, &place.item(1), query),
         Stmt::With { key, .. } => check_kind(scope, &place.item(3), Kind::Int, key),
         Stmt::Let { aggregate, .. } => check_value(scope, &place.item(2), aggregate),
         Stmt::Fire(rule) => check_fire(scope, place, *rule),
         Stmt::Create { .. } | Stmt::Update { .. } | Stmt::Signal { .. } => Ok(()),
+        Stmt::If { .. } | Stmt::Each { .. } => Ok(()),
         Stmt::Sub { .. } | Stmt::Abort | Stmt::Veto(None) | Stmt::OnRule { .. } => Ok(()),
     }
 }
@@ -348,6 +340,16 @@ fn find_own(
         Stmt::Signal { name, arguments } => {
             let signature = scope.declared.signature(name);
             find_in_arguments(scope, place, signature, arguments, notes)
+        }
+        Stmt::If { condition, .. } => find_in_test(scope, &place.item(1), condition, notes),
+        Stmt::Each {
+            variable,
+            class,
+            predicate,
+            ..
+        } => {
+            let inner = (&*scope).bound(variable, *class);
+            find_in_test(&inner, &place.item(3), predicate, notes)
         }
         _ => note(notes, check_single(s, scope, place)),
     }

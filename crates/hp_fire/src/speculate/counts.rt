@@ -2,7 +2,7 @@
 
 ghost use Rattle.std.specs.Prelude.{◌≡◌, ◌+◌, ◌^◌, ◌<◌, ◌≤◌, true, IfOk};
 ghost use Rattle.std.specs.List.{slice_index_or};
-ghost use Rattle.hp_fire.specs.Groups.{IsRetried};
+ghost use Rattle.hp_fire.specs.Groups.{IsRetried, firsts};
 
 use crate::speculate::index::GroupIndex;
 use hp_attempt::Attempt;
@@ -66,10 +66,12 @@ impl Counts {
         mark(&mut self.retried, done);
     }
 
-    /// The next `count` tasks were settled from attempts.
+    /// The next `count` tasks were settled from attempts. Those that were not tried again are counted as accepted.
     pub(crate) fn add_kept(&mut self, done: usize, count: usize)
         requires { (done + count < 2 ^ 64) × (self.old.accepted ≤ done) }
         ensures same { (self.new.waves ≡ self.old.waves) × (self.new.retried ≡ self.old.retried) }
+        ensures exactly { let retried = self.old.retried.items in
+            self.new.accepted + firsts retried done ≡ self.old.accepted + firsts retried (done + count) }
         ensures accepted { self.new.accepted ≤ self.old.accepted + count }
         ensures retried { 0 < count → IsRetried self.old done → self.new.accepted < self.old.accepted + count }
     {
@@ -90,6 +92,7 @@ fn mark(retried: &mut Vec<bool>, index: GroupIndex)
 // How many of `count` tasks from an index have their attempts from the first wave.
 fn of_first_wave(retried: &[bool], from: usize, count: usize) -> usize
     requires { from + count < 2 ^ 64 }
+    ensures exactly { result + firsts retried.now from ≡ firsts retried.now (from + count) }
     ensures most { result ≤ count }
     ensures retried { 0 < count → slice_index_or retried.now from true ≡ true → result < count }
 {

@@ -80,6 +80,7 @@ impl Progress {
         stop_at_veto: bool,
     ) -> Result<(), AllocError>
         requires { IsAcceptedWithin self.old }
+        ensures waves { self.new.counts.waves ≡ self.old.counts.waves }
         ensures ahead { OnOk result (IsAhead self.old self.new) }
         ensures comes { OnOk result ((library : ModelLibrary) → AreSound library self.old.pending.attempts.items
             → Comes library stop_at_veto (map task_of tasks.now) view.old self.old view.new self.new) }
@@ -143,7 +144,7 @@ impl Progress {
 }
 
 impl Progress {
-    ghost use Rattle.std.specs.Prelude.{OnOk};
+    ghost use Rattle.std.specs.Prelude.{◌≡◌, OnOk};
     ghost use Rattle.hp_model.specs.Rules.{Library as ModelLibrary};
     ghost use Rattle.hp_attempt.specs.Fronts.{AreSound};
     ghost use Rattle.hp_fire.specs.Groups.{AreOf, ComesInWave, IsAcceptedWithin};
@@ -159,6 +160,7 @@ impl Progress {
         polls: usize,
     ) -> Result<(), AllocError>
         requires { IsAcceptedWithin self.old }
+        ensures waves { self.new.counts.waves ≡ self.old.counts.waves }
         ensures channels { (l : ModelLibrary) → AreOf l receivers.old.items → AreOf l receivers.new.items }
         ensures comes { OnOk result ((l : ModelLibrary) → AreOf l receivers.old.items
             → AreSound l self.old.pending.attempts.items

@@ -1,15 +1,15 @@
 //! The start of a wave.
 
 ghost use Rattle.std.specs.Prelude.{◌≡◌, ◌<◌, All, IfOk, length};
-ghost use Rattle.hp_rule.specs.Mapped.{library};
+ghost use Rattle.hp_model.specs.Rules.{Library as ModelLibrary};
 ghost use Rattle.hp_board.specs.Deal.{IsSeatOf};
-ghost use Rattle.hp_fire.specs.Groups.{IsWave, IsJob, AreOf};
+ghost use Rattle.hp_attempt.specs.Fronts.{AreSound};
+ghost use Rattle.hp_fire.specs.Groups.{IsWave};
 
-use crate::speculate::channel::Receiver;
-use crate::speculate::extents::frozen;
+use crate::speculate::extents::{frozen, share_beneath};
 use crate::speculate::pending::Pending;
 use crate::speculate::policy::WRITES_PER_ACCEPT;
-use crate::speculate::wave::{Job, Wave, jobs_for, kept_layers};
+use crate::speculate::wave::{Wave, kept_layers};
 use hp_board::{Board, Seat};
 use hp_rule::{Library, Task};
 use hp_view::View;
@@ -35,26 +35,28 @@ pub(crate) struct Start<'a> {
     pub(crate) wave: Wave<'a>,
     /// The seat of the owner's part.
     pub(crate) seat: Seat,
-    /// The workers' jobs.
-    pub(crate) jobs: Vec<Job<'a>>,
-    /// The owner's ends of the channels.
-    pub(crate) receivers: Vec<Receiver<'a>>,
+    /// The workers' seats.
+    pub(crate) seats: Vec<Seat>,
 }
 
 /// Prepares a wave over the tasks that aren't settled, for as many workers as there are threads, the owner's part
-/// included.
+/// included. Of the attempts so far, the first and those whose reads don't hold in the view are dropped.
+///
+/// An error means that memory ran out; some of these attempts may then be dropped.
 pub(crate) fn prepare<'a>(
     plan: Plan<'a>,
     alloc: Global,
-    view: &View,
-    pending: &Pending,
+    view: &mut View,
+    pending: &mut Pending,
 ) -> Result<Start<'a>, AllocError>
     requires { plan.done < length plan.tasks.now }
+    ensures view { view.new ≡ view.old }
+    ensures sound { (library : ModelLibrary) → AreSound library pending.old.attempts.items
+        → AreSound library pending.new.attempts.items }
     ensures wave { IfOk result (λ s. IsWave s.wave × (s.wave.tasks.now ≡ plan.entry.tasks.now)
         × (s.wave.stop_at_veto ≡ plan.entry.stop_at_veto)) }
     ensures seat { IfOk result (λ s. IsSeatOf s.wave.board.deal s.seat) }
-    ensures jobs { IfOk result (λ s. All (IsJob (library plan.entry.lib.now) s.wave.board.deal) s.jobs.items) }
-    ensures channels { IfOk result (λ s. AreOf (library plan.entry.lib.now) s.receivers.items) }
+    ensures seats { IfOk result (λ s. All (IsSeatOf s.wave.board.deal) s.seats.items) }
 {
     let Plan {
         lib,
@@ -65,6 +67,8 @@ pub(crate) fn prepare<'a>(
     } = plan;
     let left = tasks.len() - done;
     let workers = width.clamp(1, 64).min(left);
+    share_beneath(alloc, lib, &tasks[done..], view)?;
+    pending.drop_first_and_stale(view);
     let snapshot = frozen(alloc, lib, &tasks[done..], view)?;
     let kept = kept_layers(alloc, &pending.attempts)?;
     let (board, mut seats) = Board::new(alloc, left, workers)?;
@@ -80,11 +84,5 @@ pub(crate) fn prepare<'a>(
         board,
         early: view.written() <= left.saturating_mul(WRITES_PER_ACCEPT),
     };
-    let (jobs, receivers) = jobs_for(alloc, lib, &wave, seats)?;
-    Ok(Start {
-        wave,
-        seat,
-        jobs,
-        receivers,
-    })
+    Ok(Start { wave, seat, seats })
 }

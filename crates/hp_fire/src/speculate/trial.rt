@@ -1,6 +1,6 @@
 //! Trying the tasks of a wave.
 
-ghost use Rattle.std.specs.Prelude.{◌≡◌, ◌<◌, IfOk, OnOk, IfSome, IsSome, All, length};
+ghost use Rattle.std.specs.Prelude.{◌≡◌, ◌+◌, ◌<◌, IfOk, OnOk, IfSome, IsSome, All, length};
 ghost use Rattle.std.specs.Thread.{IsSync};
 ghost use Rattle.hp_model.specs.Cells.{Holds};
 ghost use Rattle.hp_model.specs.Soundness.{IsSound};
@@ -10,6 +10,7 @@ ghost use Rattle.hp_board.specs.Deal.{IsSeatOf};
 ghost use Rattle.hp_attempt.specs.Fronts.{AreSound};
 ghost use Rattle.hp_attempt.specs.Mapped.{attempt as attempt_of};
 ghost use Rattle.hp_fire.specs.Given.{MayFire, Fires};
+ghost use Rattle.hp_fire.specs.Starts.{IsTriedFrom};
 ghost use Rattle.hp_fire.specs.Groups.{AreSoundTries, IsAcceptedWithin, IsWave, IsWorker, IsJob, AreOf, ComesInWave};
 
 use crate::attempting::attempt_on;
@@ -75,7 +76,7 @@ impl<
         requires firings { Fires F.Fn self.now.fire.now (library self.now.lib.now) }
         requires wave { IsWave wave.now }
         requires seat { IsSeatOf wave.now.board.deal seats.0 }
-        requires jobs { All (IsJob (library self.now.lib.now) wave.now.board.deal) seats.1.items }
+        requires jobs { All (IsJob (library self.now.lib.now) wave.now) seats.1.items }
         requires channels { AreOf (library self.now.lib.now) receivers.old.items }
         requires sound { AreSound (library self.now.lib.now) progress.old.pending.attempts.items }
         requires accepted { IsAcceptedWithin progress.old }
@@ -84,6 +85,7 @@ impl<
         ensures comes { OnOk result.1 (ComesInWave (library self.now.lib.now) wave.now
             view.old progress.old view.new progress.new) }
         ensures channels { AreOf (library self.now.lib.now) receivers.new.items }
+        ensures waves { progress.new.counts.waves ≡ progress.old.counts.waves }
     {
         let (seat, jobs) = seats;
         let mut seat = Some(seat);
@@ -98,10 +100,11 @@ impl<
             ensures comes { OnOk result (ComesInWave (library self.entry.now.lib.now) wave.entry.now
                 view.entry.now progress.entry.now view.exit.now progress.exit.now) }
             ensures channels { AreOf (library self.entry.now.lib.now) receivers.exit.now.items }
+            ensures waves { progress.exit.now.counts.waves ≡ progress.entry.now.counts.waves }
         { self.try_as_owner(wave, take_value(&mut seat), view, progress, receivers) };
         let worker = |job| -> Vec<Tried>
             requires { IsSync R.row × IsSync G.row × IsSync F.row × IsWave wave.now
-                × IsJob (library self.now.lib.now) wave.now.board.deal job
+                × IsJob (library self.now.lib.now) wave.now job
                 × All (MayFire F.Fn self.now.fire.now) wave.now.tasks.now
                 × Fires F.Fn self.now.fire.now (library self.now.lib.now) }
             ensures { AreSoundTries (library self.entry.now.lib.now) result.items }
@@ -131,6 +134,7 @@ impl<
         ensures comes { OnOk result (ComesInWave (library self.now.lib.now) wave.now
             view.old progress.old view.new progress.new) }
         ensures channels { AreOf (library self.now.lib.now) receivers.new.items }
+        ensures waves { progress.new.counts.waves ≡ progress.old.counts.waves }
     {
         let Ok(mut worker) = Worker::new(self.alloc, wave, seat) else {
             return Ok(());
@@ -156,6 +160,7 @@ impl<
         ensures comes { OnOk result (ComesInWave (library self.now.lib.now) worker.old.wave.now
             view.old progress.old view.new progress.new) }
         ensures channels { AreOf (library self.now.lib.now) receivers.new.items }
+        ensures waves { progress.new.counts.waves ≡ progress.old.counts.waves }
     {
         let wave = worker.wave;
         for _ in 0..wave.tasks.len() {
@@ -175,7 +180,7 @@ impl<
         requires fires { All (MayFire F.Fn self.now.fire.now) wave.now.tasks.now }
         requires firings { Fires F.Fn self.now.fire.now (library self.now.lib.now) }
         requires wave { IsWave wave.now }
-        requires job { IsJob (library self.now.lib.now) wave.now.board.deal job }
+        requires job { IsJob (library self.now.lib.now) wave.now job }
         ensures { AreSoundTries (library self.now.lib.now) result.items }
     {
         let Job { seat, mut sender } = job;
@@ -202,6 +207,7 @@ impl<
         ensures worker { IsWorker worker.new }
         ensures wave { worker.new.wave ≡ worker.old.wave }
         ensures sound { IfSome result (λ t. IsSound (library self.now.lib.now) (attempt_of t.attempt)) }
+        ensures tried { let wave = worker.old.wave.now in IfSome result (IsTriedFrom wave.snapshot wave.done) }
     {
         for _ in 0..worker.wave.tasks.len() {
             let number = worker.draw()?;
@@ -217,11 +223,13 @@ impl<
     fn try_number(&self, worker: &mut Worker<'_>, number: WaveIndex) -> Option<Tried>
         requires fires { All (MayFire F.Fn self.now.fire.now) worker.old.wave.now.tasks.now }
         requires firings { Fires F.Fn self.now.fire.now (library self.now.lib.now) }
+        requires wave { IsWave worker.old.wave.now }
         requires worker { IsWorker worker.old }
         requires number { number < length worker.old.wave.now.board.cells }
         ensures worker { IsWorker worker.new }
         ensures wave { worker.new.wave ≡ worker.old.wave }
         ensures sound { IfSome result (λ t. IsSound (library self.now.lib.now) (attempt_of t.attempt)) }
+        ensures tried { let wave = worker.old.wave.now in IfSome result (IsTriedFrom wave.snapshot wave.done) }
     {
         if worker.has_given_up() {
             return None;
@@ -231,7 +239,7 @@ impl<
             worker.post(number, layer);
             return None;
         }
-        let index = wave.done.saturating_add(number);
+        let index = wave.index_of(number);
         self.gate.started(index);
         let tried = self.try_index(worker, number, index);
         self.gate.ended(index);
@@ -247,19 +255,19 @@ impl<
     ) -> Option<Tried>
         requires fires { All (MayFire F.Fn self.now.fire.now) worker.old.wave.now.tasks.now }
         requires firings { Fires F.Fn self.now.fire.now (library self.now.lib.now) }
+        requires wave { IsWave worker.old.wave.now }
         requires worker { IsWorker worker.old }
         requires number { number < length worker.old.wave.now.board.cells }
+        requires index { index ≡ worker.old.wave.now.done + number }
         ensures worker { IsWorker worker.new }
         ensures wave { worker.new.wave ≡ worker.old.wave }
         ensures sound { IfSome result (λ t. IsSound (library self.now.lib.now) (attempt_of t.attempt)) }
+        ensures tried { let wave = worker.old.wave.now in IfSome result (IsTriedFrom wave.snapshot wave.done) }
     {
-        let tasks = worker.wave.tasks;
-        if index >= tasks.len() {
-            return None;
-        }
-        let start = worker.start_of(number).ok()?;
+        let task = &worker.wave.tasks[index];
+        let start = worker.start_of(number)?;
         let effort = Effort::new();
-        let attempt = self.try_task(start, &tasks[index], &effort).ok()?;
+        let attempt = self.try_task(start, task, &effort).ok()?;
         if !worker.post(number, &attempt.layer) {
             return None;
         }

@@ -1,17 +1,19 @@
 //! Waves: workers and the owner of a group try the tasks that aren't settled, all at once.
 
-ghost use Rattle.std.specs.Prelude.{All, IfOk, OnOk};
+ghost use Rattle.std.specs.Prelude.{◌≡◌, ◌+◌, ◌<◌, ℕ, All, IfOk, OnOk, length};
 ghost use Rattle.rtrb.specs.Ring.{sent};
 ghost use Rattle.hp_model.specs.Rules.{Library as ModelLibrary};
 ghost use Rattle.hp_model.specs.Soundness.{IsSound};
 ghost use Rattle.hp_rule.specs.Mapped.{library};
-ghost use Rattle.hp_board.specs.Deal.{Deal, IsSeatOf};
+ghost use Rattle.hp_store.specs.Stack.{Stack};
+ghost use Rattle.hp_board.specs.Deal.{IsSeatOf};
 ghost use Rattle.hp_attempt.specs.Mapped.{attempt as attempt_of};
-ghost use Rattle.hp_fire.specs.Channels.{IsOf};
-ghost use Rattle.hp_fire.specs.Groups.{AreSoundTries, IsJob, AreOf};
+ghost use Rattle.hp_fire.specs.Channels.{IsOf, IsFrom};
+ghost use Rattle.hp_fire.specs.Starts.{IsTriedFrom};
+ghost use Rattle.hp_fire.specs.Groups.{AreSoundTries, IsWave, IsJob, AreOf};
 
 use crate::speculate::channel::{Receiver, Sender, channel, send};
-use crate::speculate::index::WaveIndex;
+use crate::speculate::index::{GroupIndex, WaveIndex};
 use crate::speculate::pending::Tried;
 use hp_attempt::Attempt;
 use hp_board::{Board, Posted, Seat};
@@ -43,6 +45,17 @@ pub struct Wave<'a> {
 }
 
 impl Wave<'_> {
+    /// The index in the group of the task of this number.
+    pub(crate) fn index_of(&self, number: WaveIndex) -> GroupIndex
+        requires wave { IsWave self.now }
+        requires number { number < length self.now.board.cells }
+        ensures { result ≡ self.now.done + number }
+    {
+        // It is counted from the end, so that no sum has to fit.
+        let left = self.tasks.len() - self.done;
+        self.tasks.len() - (left - number)
+    }
+
     /// How often the owner polls for attempts at the end of the wave: `often` times, or never if accepting them early
     /// isn't cheap.
     pub(crate) fn polls(&self, often: usize) -> usize {
@@ -63,17 +76,17 @@ pub struct Job<'a> {
 pub(crate) fn jobs_for<'a>(
     alloc: Global,
     lib: &'a Library,
-    wave: &Wave<'_>,
+    wave: &'a Wave<'_>,
     seats: Vec<Seat>,
 ) -> Result<(Vec<Job<'a>>, Vec<Receiver<'a>>), AllocError>
     requires { All (IsSeatOf wave.now.board.deal) seats.items }
-    ensures jobs { IfOk result (λ r. All (IsJob (library lib.entry.now) wave.now.board.deal) r.0.items) }
+    ensures jobs { IfOk result (λ r. All (IsJob (library lib.entry.now) wave.entry.now) r.0.items) }
     ensures receivers { IfOk result (λ r. AreOf (library lib.entry.now) r.1.items) }
 {
     let mut jobs = Vec::new(alloc);
     let mut receivers = Vec::new(alloc);
     for seat in seats {
-        add_job(alloc, lib, seat, &mut jobs, &mut receivers)?;
+        add_job(alloc, lib, wave, seat, &mut jobs, &mut receivers)?;
     }
     Ok((jobs, receivers))
 }
@@ -82,19 +95,20 @@ pub(crate) fn jobs_for<'a>(
 fn add_job<'a>(
     alloc: Global,
     lib: &'a Library,
+    wave: &'a Wave<'_>,
     seat: Seat,
     jobs: &mut Vec<Job<'a>>,
     receivers: &mut Vec<Receiver<'a>>,
 ) -> Result<(), AllocError>
-    ensures jobs { OnOk result ((deal : Deal) → IsSeatOf deal seat
-        → All (IsJob (library lib.entry.now) deal) jobs.old.items
-        → All (IsJob (library lib.entry.now) deal) jobs.new.items) }
+    requires { IsSeatOf wave.now.board.deal seat }
+    ensures jobs { OnOk result (All (IsJob (library lib.entry.now) wave.entry.now) jobs.old.items
+        → All (IsJob (library lib.entry.now) wave.entry.now) jobs.new.items) }
     ensures receivers { OnOk result (AreOf (library lib.entry.now) receivers.old.items
         → AreOf (library lib.entry.now) receivers.new.items) }
 {
     jobs.reserve(1)?;
     receivers.reserve(1)?;
-    let (sender, receiver) = channel(alloc, lib)?;
+    let (sender, receiver) = channel(alloc, lib, &wave.snapshot, wave.done)?;
     jobs.push_reserved(Job { seat, sender });
     receivers.push_reserved(receiver);
     Ok(())
@@ -140,8 +154,10 @@ pub(crate) fn boxed(alloc: Global, layer: &Arc<Layer>) -> Result<Posted<Arc<Laye
 
 /// Hands an attempt to the owner: sends it, or keeps it until the worker ends if the channel is full.
 pub(crate) fn hand_over(sender: &mut Sender<'_>, found: &mut Vec<Tried>, tried: Tried)
-    requires { (l : ModelLibrary) → IsOf l (sent sender.old) → IsSound l (attempt_of tried.attempt) }
+    requires sound { (l : ModelLibrary) → IsOf l (sent sender.old) → IsSound l (attempt_of tried.attempt) }
+    requires tried { (s : Stack) (n : ℕ) → IsFrom s n (sent sender.old) → IsTriedFrom s n tried }
     ensures channel { (l : ModelLibrary) → IsOf l (sent sender.old) → IsOf l (sent sender.new) }
+    ensures channel_from { (s : Stack) (n : ℕ) → IsFrom s n (sent sender.old) → IsFrom s n (sent sender.new) }
     ensures found { (l : ModelLibrary) → IsOf l (sent sender.old) → AreSoundTries l found.old.items
         → AreSoundTries l found.new.items }
 {

@@ -3,6 +3,7 @@
 ghost use Rattle.std.specs.Prelude.{◌≡◌, ◌<◌, IfOk, IfSome, length};
 ghost use Rattle.hp_board.specs.Deal.{IsSeatOf};
 ghost use Rattle.hp_fire.specs.Groups.{IsWorker};
+ghost use Rattle.hp_fire.specs.Starts.{StartsFrom};
 
 use crate::speculate::index::WaveIndex;
 use crate::speculate::policy::MAX_CONFLICTS;
@@ -21,8 +22,9 @@ pub(crate) struct Worker<'a> {
     /// What all workers share.
     pub(crate) wave: &'a Wave<'a>,
     alloc: Global,
-    // An `Option`, since the board takes the seat and the pass and gives them back.
+    // An `Option`, since the board takes the seat and gives it back.
     seat: Option<Seat>,
+    // `None` once memory has run out for the start of a task: then the worker tries no more.
     pass: Option<Pass<Arc<Layer>>>,
     predecessors: Predecessors,
     // Whether a veto has stopped the group.
@@ -63,10 +65,10 @@ impl<'a> Worker<'a> {
         drawn
     }
 
-    /// Whether more attempts are in vain, or are likely to be: a veto has stopped the group, or the worker's last
-    /// attempts were in conflict with predecessors.
+    /// Whether more attempts are in vain, or are likely to be: a veto has stopped the group, memory has run out for the
+    /// start of a task, or the worker's last attempts were in conflict with predecessors.
     pub(crate) fn has_given_up(&self) -> bool {
-        self.is_stopped || self.predecessors.conflicts >= MAX_CONFLICTS
+        self.is_stopped || self.pass.is_none() || self.predecessors.conflicts >= MAX_CONFLICTS
     }
 
     /// Notes whether a veto has stopped the group. No attempt is accepted after a veto.
@@ -79,21 +81,23 @@ impl<'a> Worker<'a> {
     }
 
     /// The start of a task: the wave's snapshot, under the layers that the task's predecessors have posted so far, in
-    /// order.
-    pub(crate) fn start_of(&mut self, number: WaveIndex) -> Result<Snapshot, AllocError>
+    /// order. `None` means that memory has run out: the worker has no pass any more.
+    pub(crate) fn start_of(&mut self, number: WaveIndex) -> Option<Snapshot>
         requires worker { IsWorker self.old }
         requires number { number < length self.old.wave.now.board.cells }
         ensures worker { IsWorker self.new }
         ensures wave { self.new.wave ≡ self.old.wave }
+        ensures start { IfSome result (StartsFrom self.new number) }
     {
-        let Some(pass) = self.pass.take() else {
-            return Err(AllocError);
-        };
-        let (start, pass) = self
+        let pass = self.pass.take()?;
+        let found = self
             .predecessors
             .start_of(self.alloc, self.wave, number, pass);
+        let Ok((start, pass)) = found else {
+            return None;
+        };
         self.pass = Some(pass);
-        start
+        Some(start)
     }
 
     /// Posts what a task wrote. The answer is whether it did.

@@ -125,14 +125,7 @@ impl<R: Threads + Sync> Workers for Nested<'_, R> {
             rt: self.rt,
             gate: &NoGate,
         };
-        let engine = Engine {
-            workers: &Alone,
-            alloc: engine.alloc,
-            lib: engine.lib,
-            width: 1,
-            past: engine.past,
-            effort: engine.effort,
-        };
+        let engine = engine.inside(engine.effort, 1);
         threads.try_with(&engine, wave, seats, view, progress, receivers)
     }
 }
@@ -194,14 +187,7 @@ impl<R: Threads + Sync, G: Gate + Sync> Gated<'_, R, G> {
             progress.old progress.new receivers.new result }
     {
         let inner = Nested { rt: self.rt };
-        let engine = Engine {
-            workers: &inner,
-            alloc: engine.alloc,
-            lib: engine.lib,
-            width: engine.width,
-            past: engine.past,
-            effort: engine.effort,
-        };
+        let engine = engine.with_workers(&inner);
         self.try_with(&engine, wave, seats, view, progress, receivers)
     }
 

@@ -1,8 +1,10 @@
 use Rattle.std.proofs.Common.{◌≡◌, ◌++◌, string_bytes, map, drop}
 use Rattle.hp_rule.specs.Statements.{rule}
 use Rattle.hp_analysis.specs.Checking.{opening_lines}
+use Rattle.hipac_check.specs.Spots.{shown}
 use Rattle.hipac_check.proofs.lines.put_openings.Given as goal
 
 -- what was written and what is still to write is all
 abbrev pub invariant-loop-n : goal.invariant-loop-n
-invariant-loop-n l = string_bytes l.out ++ opening_lines l.n (map rule (drop l.n l.rules)) ≡ string_bytes l.fn.out ++ opening_lines 0 (map rule l.rules)
+invariant-loop-n l =
+    string_bytes l.out ++ opening_lines (shown l.spots) l.n (map rule (drop l.n l.rules)) ≡ string_bytes l.fn.out ++ opening_lines (shown l.spots) 0 (map rule l.rules)

@@ -8,4 +8,11 @@ kept f None = refl
 kept f (Some x) = refl
 
 pub returns : goal.returns
-returns g c = record { name = _; words = c.in_ok-live.ensures; bytes = c.in_ok-script.ensures ∙ kept _ c.in_ok-live.live.script }
+returns g c = record {
+  name = _;
+  signals = _;
+  checked = _;
+  words = c.in_ok-live.ensures;
+  bytes = c.in_ok-script.ensures ∙ kept _ c.in_ok-live.live.script;
+  given = c.in_ok-given.ensures;
+}

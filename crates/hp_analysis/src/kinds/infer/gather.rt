@@ -75,13 +75,13 @@ fn slot(of: &Library, part: u16, what: Reading<'_>, matching: &[&Pattern]) -> Op
 }
 
 impl Gathering {
-    /// What a library and the units of its script say.
+    /// What a library and the units of its script say of the signals that aren't given.
     pub(crate) fn of(
         alloc: Global,
         library: &Library,
         units: &[Unit],
+        given: &Declaration,
     ) -> Result<Gathering, AllocError> {
-        let nothing = Declaration::new(alloc);
         let mut gathering = Gathering {
             alloc,
             arguments: Arguments::new(alloc),
@@ -89,25 +89,30 @@ impl Gathering {
             reads: BTreeMap::new(alloc),
         };
         for rule in library.rules() {
-            gathering.add_signals(&rule.event)?;
+            gathering.add_signals(given, &rule.event)?;
         }
         for rule in library.rules() {
-            gathering.add_rule(library, &nothing, rule)?;
+            gathering.add_rule(library, given, rule)?;
         }
         for begun in units {
-            gathering.add_unit(library, &nothing, begun)?;
+            gathering.add_unit(library, given, begun)?;
         }
         Ok(gathering)
     }
 
-    /// Adds the signals of an event.
-    fn add_signals(&mut self, expr: &EventExpr) -> Result<(), AllocError> {
+    /// Adds the signals of an event that aren't given.
+    fn add_signals(&mut self, given: &Declaration, expr: &EventExpr) -> Result<(), AllocError> {
         match expr {
-            EventExpr::One(Pattern::Signal(name)) => self.arguments.add_signal(name),
+            EventExpr::One(Pattern::Signal(name)) => {
+                if given.is_declared(name) {
+                    return Ok(());
+                }
+                self.arguments.add_signal(name)
+            }
             EventExpr::One(_) => Ok(()),
             EventExpr::Or(a, b) | EventExpr::Seq(a, b) | EventExpr::Closure(a, b) => {
-                self.add_signals(a)?;
-                self.add_signals(b)
+                self.add_signals(given, a)?;
+                self.add_signals(given, b)
             }
         }
     }
@@ -115,13 +120,13 @@ impl Gathering {
     fn add_rule(
         &mut self,
         library: &Library,
-        nothing: &Declaration,
+        given: &Declaration,
         rule: &Rule,
     ) -> Result<(), AllocError> {
         let base = Base {
             alloc: self.alloc,
             library,
-            declared: nothing,
+            declared: given,
         };
         let occurred = Occurred::unseen(base, &rule.event)?;
         self.add_parts(&occurred, rule)
@@ -207,13 +212,13 @@ impl Gathering {
     fn add_unit(
         &mut self,
         library: &Library,
-        nothing: &Declaration,
+        given: &Declaration,
         begun: &Unit,
     ) -> Result<(), AllocError> {
         let scope = Scope {
             alloc: self.alloc,
             library,
-            declared: nothing,
+            declared: given,
             columns: None,
             known: &[],
             rows: Rows::Entries(&[]),
@@ -331,6 +336,9 @@ impl Gathering {
     ) -> Result<(), AllocError> {
         for (place, argument) in given.iter().enumerate() {
             let origin = self.origin_of(scope, argument)?;
+            if let Some(Sort::Only(kind)) = scope.declared.signature(name).get(place) {
+                self.arguments.want_of(origin, *kind);
+            }
             if let (Some(from), Some(into)) = (origin, self.arguments.number(name, place)) {
                 self.arguments.flows.push(Flow { from, into })?;
             }

@@ -1,5 +1,8 @@
 //! The kinds of arguments, by their uses and by what statements give them.
 
+ghost use Rattle.std.specs.Prelude.{IfOk, OnOk};
+ghost use Rattle.hp_analysis.specs.Declarations.{declared, Keeps};
+
 use crate::kinds::declaration::Declaration;
 use crate::kinds::infer::arguments::{Arguments, Flow, Given, MAX_ARGUMENTS, Origin};
 use crate::kinds::sort::Sort;
@@ -208,13 +211,13 @@ fn standings(
     Ok(standings)
 }
 
-/// Declares a signal's arguments, as many as rules use.
-fn declare(
+/// The sorts of a signal's arguments. Notes those whose kinds nothing gives.
+fn sorts_by(
     alloc: Global,
     name: &String,
     standings: &[Standing],
-    inferred: &mut Inferred,
-) -> Result<(), AllocError> {
+    unknown: &mut Vec<UnknownArgument>,
+) -> Result<Vec<Sort>, AllocError> {
     let mut sorts = Vec::new(alloc);
     for (place, known) in standings.iter().enumerate() {
         sorts.push(match known {
@@ -224,30 +227,54 @@ fn declare(
         })?;
         if matches!(known, Standing::Unknown) {
             let signal = name.clone()?;
-            inferred.unknown.push(UnknownArgument { signal, place })?;
+            unknown.push(UnknownArgument { signal, place })?;
         }
     }
-    if !sorts.is_empty() {
-        inferred.declaration.declare(name.clone()?, sorts)?;
+    Ok(sorts)
+}
+
+/// Declares a signal's arguments if it has any, unless the signal is declared already.
+fn declare_new(
+    name: &String,
+    sorts: Vec<Sort>,
+    declaration: &mut Declaration,
+) -> Result<(), AllocError>
+    ensures { OnOk result (Keeps (declared declaration.old) (declared declaration.new)) }
+{
+    if sorts.is_empty() {
+        return Ok(());
     }
+    let signal = name.clone()?;
+    if declaration.is_declared(signal.as_str()) {
+        return Ok(());
+    }
+    declaration.declare(signal, sorts)?;
     Ok(())
 }
 
-/// The declaration that follows from what was gathered.
-pub(crate) fn solved(alloc: Global, gathered: Arguments) -> Result<Inferred, AllocError> {
+/// The declaration that follows from what was gathered and from what is given.
+pub(crate) fn solved(
+    alloc: Global,
+    gathered: Arguments,
+    given: Declaration,
+) -> Result<Inferred, AllocError>
+    ensures { IfOk result (λ inferred. Keeps (declared given) (declared inferred.declaration)) }
+{
     let mut arguments = gathered;
     arguments.settle();
     spread(alloc, &mut arguments)?;
     join_flows(alloc, &mut arguments)?;
     arguments.settle();
     let counts = counts(alloc, &arguments)?;
-    let mut inferred = Inferred {
-        declaration: Declaration::new(alloc),
-        unknown: Vec::new(alloc),
-    };
+    let mut declaration = given;
+    let mut unknown = Vec::new(alloc);
     for (name, first) in arguments.numbers.iter() {
         let standings = standings(alloc, &arguments, &counts, *first)?;
-        declare(alloc, name, &standings, &mut inferred)?;
+        let sorts = sorts_by(alloc, name, &standings, &mut unknown)?;
+        declare_new(name, sorts, &mut declaration)?;
     }
-    Ok(inferred)
+    Ok(Inferred {
+        declaration,
+        unknown,
+    })
 }

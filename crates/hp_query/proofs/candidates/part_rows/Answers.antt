@@ -13,7 +13,7 @@ returns-then-is_exact-clause-rows g c = λ world rise allowed.
     let predicate = expression asked.predicate.now in
     let told : IsFalseOutside env asked.name.now predicate (part_compared (attribute c.in-Some.compared.attribute) (comparison c.in-Some.compared.comparison)
     (value c.in-Some.compared.value)) = search rules in
-    let outside = subst (IsFalseOutside env asked.name.now predicate) (sym c.in-Some-class_part.ensures) told in
+    let outside = subst (IsFalseOutside env asked.name.now predicate) (sym c.in-Some-class_part.ensures.part) told in
     let listed = rw c.in-Some-2.is at c.in_ok-rows.ensures.listed in
     rows_of_part env asked.name.now predicate (class_part c.in-Some-class_part.part) (rows_of asked.class world) (keyed_rows c.in-Some-2.rows) outside (listed world rise allowed)
 
@@ -24,7 +24,7 @@ returns-then-is_exact-clause-selected g c = λ known world rise allowed.
     let predicate = expression asked.predicate.now in
     let told : IsTrueInside env asked.name.now predicate (part_compared (attribute c.in-Some.compared.attribute) (comparison c.in-Some.compared.comparison)
     (value c.in-Some.compared.value)) = search rules in
-    let inside = subst (IsTrueInside env asked.name.now predicate) (sym c.in-Some-class_part.ensures) told in
+    let inside = subst (IsTrueInside env asked.name.now predicate) (sym c.in-Some-class_part.ensures.part) told in
     let listed = rw c.in-Some-2.is at c.in_ok-rows.ensures.listed in
     true_in_part env asked.name.now predicate (class_part c.in-Some-class_part.part) (rows_of asked.class world) (keyed_rows c.in-Some-2.rows) inside (listed world rise allowed)
 
@@ -35,6 +35,6 @@ returns-clause-rows g c = λ world rise allowed.
     let predicate = expression asked.predicate.now in
     let told : IsFalseOutside env asked.name.now predicate (part_compared (attribute c.in-Some.compared.attribute) (comparison c.in-Some.compared.comparison)
     (value c.in-Some.compared.value)) = search rules in
-    let outside = subst (IsFalseOutside env asked.name.now predicate) (sym c.in-Some-class_part.ensures) told in
+    let outside = subst (IsFalseOutside env asked.name.now predicate) (sym c.in-Some-class_part.ensures.part) told in
     let listed = rw c.in-Some-2.is at c.in_ok-rows.ensures.listed in
     rows_of_part env asked.name.now predicate (class_part c.in-Some-class_part.part) (rows_of asked.class world) (keyed_rows c.in-Some-2.rows) outside (listed world rise allowed)

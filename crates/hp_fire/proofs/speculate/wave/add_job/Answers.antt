@@ -13,11 +13,12 @@ use Rattle.hp_fire.specs.Groups.{IsJob}
 use Rattle.hp_fire.proofs.speculate.wave.add_job.Goals as goal
 
 pub returns-clause-jobs : goal.returns-clause-jobs
-returns-clause-jobs c = λ deal seat before.
-    let P = λ (job : Job). IsJob (library c.args.lib.now) deal job in
+returns-clause-jobs c = λ before.
+    let P = IsJob (library c.args.lib.now) c.args.wave.now in
     let job : Job = record { seat = c.args.seat; sender = c.in_ok-sender.sender } in
     let items : c.push_reserved.new.self.items ≡ c.args.jobs.now.items ++ job ∷ [] = search rules in
-    subst (All P) (sym items) (All-push P c.args.jobs.now.items job before (seat, c.in_ok-sender.ensures.sender))
+    subst (All P) (sym items) (All-push P c.args.jobs.now.items job before
+    (record { seat = c.requires; of = c.in_ok-sender.ensures.sender; from = c.in_ok-sender.ensures.sender_from }))
 
 pub returns-clause-receivers : goal.returns-clause-receivers
 returns-clause-receivers c = λ before.

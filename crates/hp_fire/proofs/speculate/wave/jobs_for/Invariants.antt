@@ -6,4 +6,4 @@ use Rattle.hp_fire.proofs.speculate.wave.jobs_for.Given as goal
 
 abbrev pub invariant-loop-seat : goal.invariant-loop-seat
 invariant-loop-seat l =
-    All (IsSeatOf l.wave.board.deal) l.seat-iterator.rest.items × All (IsJob (library l.lib) l.wave.board.deal) l.jobs.items × AreOf (library l.lib) l.receivers.items
+    All (IsSeatOf l.wave.board.deal) l.seat-iterator.rest.items × All (IsJob (library l.lib) l.wave) l.jobs.items × AreOf (library l.lib) l.receivers.items

@@ -13,15 +13,15 @@ use Rattle.hp_fire.proofs.speculate.group.Group.advance.Goals as goal
 
 pub returns-then-len-done : goal.returns-then-len-done
 returns-then-len-done g c =
-    let by_wave = c.in_ok-settle_by_wave.ensures in
+    let by_wave = c.in_ok-settle_by_wave.ensures.comes in
     let more : length c.args.progress.now.settled.outcomes.items < length c.settle_by_wave.new.progress.settled.outcomes.items = search rules in
     record { more = more; counted = by_wave.counted more; sound = by_wave.sound; so_far = by_wave.so_far }
 
 pub returns : goal.returns
 returns g c =
-    let lib = library c.args.self.now.lib.now in
+    let lib = library c.args.self.now.engine.lib.now in
     let tasks = c.args.self.now.tasks.now in
-    let by_wave = c.in_ok-settle_by_wave.ensures in
+    let by_wave = c.in_ok-settle_by_wave.ensures.comes in
     let begun = c.args.progress.now in
     let waved = c.settle_by_wave.new.progress in
     let added = c.add.new.self in

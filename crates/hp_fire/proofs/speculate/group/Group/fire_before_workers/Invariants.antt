@@ -7,5 +7,5 @@ use Rattle.hp_fire.proofs.speculate.group.Group.fire_before_workers.Given as goa
 
 abbrev pub invariant-loop-task : goal.invariant-loop-task
 invariant-loop-task g l =
-    IsSoFar (library l.self.lib.now) l.self.stop_at_veto (map task l.self.tasks.now) l.fn.view l.view l.settled.outcomes.items (option_map veto l.settled.end)
+    IsSoFar (library l.self.engine.lib.now) l.self.stop_at_veto (map task l.self.tasks.now) l.fn.view l.view l.settled.outcomes.items (option_map veto l.settled.end)
     × (l.settled.end ≡ None) × (length l.settled.outcomes.items ≡ l.task-index)

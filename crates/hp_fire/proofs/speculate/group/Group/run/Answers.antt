@@ -14,7 +14,7 @@ use Rattle.hp_fire.proofs.speculate.group.Group.run.Goals as goal
 
 pub returns-clause-runs : goal.returns-clause-runs
 returns-clause-runs g c =
-    subst (λ (o : GroupOutcome). RunsGroup (library c.args.self.now.lib.now) (siblings (fire_task (library c.args.self.now.lib.now)) c.args.self.now.stop_at_veto
+    subst (λ (o : GroupOutcome). RunsGroup (library c.args.self.now.engine.lib.now) (siblings (fire_task (library c.args.self.now.engine.lib.now)) c.args.self.now.stop_at_veto
     (map task c.args.self.now.tasks.now)) c.args.view.now c.loop-view.view (group o)) (sym c.into_outcome.ensures)
     (so_far_ends c.loop-view.progress.settled.outcomes.items (option_map veto c.loop-view.progress.settled.end) c.loop-view.invariant.2
     (λ none. subst (λ n. n ≤ length c.loop-view.progress.settled.outcomes.items) (sym (length-map c.args.self.now.tasks.now task))
@@ -26,9 +26,9 @@ loop-view-init g c =
     let b = c.in_ok-progress.ensures.begins in
     let counted : IsCounted c.in_ok-progress.progress = (omega (arith, b.1), omega (arith, b.1, b.2)) in (
       counted,
-      c.in_ok-progress.ensures.sound (library c.args.self.now.lib.now),
+      c.in_ok-progress.ensures.sound (library c.args.self.now.engine.lib.now),
       subst
-          (λ (s : Settled). IsSoFar (library c.args.self.now.lib.now) c.args.self.now.stop_at_veto (map task c.args.self.now.tasks.now) c.args.view.now
+          (λ (s : Settled). IsSoFar (library c.args.self.now.engine.lib.now) c.args.self.now.stop_at_veto (map task c.args.self.now.tasks.now) c.args.view.now
           c.fire_before_workers.new.view s.outcomes.items (option_map veto s.end)) (sym b.0) c.in_ok-settled.ensures.so_far,
     )
 
@@ -39,7 +39,7 @@ pub returns-then-not-goes_on-clause-runs : goal.returns-then-not-goes_on-clause-
 returns-then-not-goes_on-clause-runs g c =
     let tasks = c.args.self.now.tasks.now in
     let all = c.in_ok-settled.settled.outcomes.items in
-    subst (λ (o : GroupOutcome). RunsGroup (library c.args.self.now.lib.now) (siblings (fire_task (library c.args.self.now.lib.now)) c.args.self.now.stop_at_veto (map task tasks))
+    subst (λ (o : GroupOutcome). RunsGroup (library c.args.self.now.engine.lib.now) (siblings (fire_task (library c.args.self.now.engine.lib.now)) c.args.self.now.stop_at_veto (map task tasks))
     c.args.view.now c.fire_before_workers.new.view (group o)) (sym c.of_owner.ensures)
     (so_far_ends all (option_map veto c.in_ok-settled.settled.end) c.in_ok-settled.ensures.so_far
     (λ none. subst (λ n. n ≤ length all) (sym (length-map tasks task))

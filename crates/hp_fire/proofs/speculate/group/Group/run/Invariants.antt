@@ -8,8 +8,8 @@ use Rattle.hp_fire.proofs.speculate.group.Group.run.Given as goal
 
 abbrev pub invariant-loop-view : goal.invariant-loop-view
 invariant-loop-view g l =
-    IsCounted l.progress × AreSound (library l.self.lib.now) l.progress.pending.attempts.items
-    × IsSoFar (library l.self.lib.now) l.self.stop_at_veto (map task l.self.tasks.now) l.fn.view l.view l.progress.settled.outcomes.items (option_map veto l.progress.settled.end)
+    IsCounted l.progress × AreSound (library l.self.engine.lib.now) l.progress.pending.attempts.items
+    × IsSoFar (library l.self.engine.lib.now) l.self.stop_at_veto (map task l.self.tasks.now) l.fn.view l.view l.progress.settled.outcomes.items (option_map veto l.progress.settled.end)
 
 abbrev pub decreases-loop-view : goal.decreases-loop-view
 decreases-loop-view g l = length l.self.tasks.now - length l.progress.settled.outcomes.items

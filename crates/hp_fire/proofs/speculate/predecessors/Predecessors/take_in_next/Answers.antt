@@ -10,3 +10,6 @@ returns-then-predecessor-self-clause-next c = where_ok c.take_in.result (λ ok s
 
 pub returns-then-predecessor-self-clause-later : goal.returns-then-predecessor-self-clause-later
 returns-then-predecessor-self-clause-later c = where_ok c.take_in.result (λ ok other. ok) c.take_in.ensures.ok
+
+pub returns-then-predecessor-self-clause-after_next : goal.returns-then-predecessor-self-clause-after_next
+returns-then-predecessor-self-clause-after_next c = where_ok c.take_in.result (λ ok same. absurd (c.if-predecessor-self.true same)) c.take_in.ensures.ok

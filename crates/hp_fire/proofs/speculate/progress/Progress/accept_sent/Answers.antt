@@ -1,10 +1,10 @@
-use Rattle.std.proofs.Common.{refl}
+use Rattle.std.proofs.Common.{refl, ◌∙◌}
 use Rattle.hp_fire.specs.declared.speculate.progress.Progress.{Progress}
 use Rattle.hp_fire.proofs.Coming.{within_ahead, comes_same, comes_then, comes_put}
 use Rattle.hp_fire.proofs.speculate.progress.Progress.accept_sent.Goals as goal
 
 pub loop-init : goal.loop-init
-loop-init c = record { accepted = c.requires; channels = λ library all. all; comes = λ library all sound. comes_same c.args.view.now c.args.self.now sound }
+loop-init c = record { accepted = c.requires; waves = refl; channels = λ library all. all; comes = λ library all sound. comes_same c.args.view.now c.args.self.now sound }
 
 pub settle-requires : goal.settle-requires
 settle-requires c = c.loop.invariant.accepted
@@ -15,6 +15,7 @@ returns-in_err-settle-clause-channels c = λ library all. c.receive_all.ensures.
 pub loop-preserved : goal.loop-preserved
 loop-preserved c = record {
   accepted = within_ahead _ c.settle.new.self c.loop.invariant.accepted c.in_ok-settle.ensures.ahead;
+  waves = c.settle.ensures.waves ∙ c.loop.invariant.waves;
   channels = λ library all. c.receive_all.ensures.channels library (c.loop.invariant.channels library all);
   comes = λ library all sound.
       let before = c.loop.invariant.comes library all sound in

@@ -4,7 +4,7 @@ use Rattle.std.specs.Prelude.{option_map}
 use Rattle.hp_value.specs.Mapped.{veto}
 use Rattle.hp_rule.specs.Mapped.{task}
 use Rattle.hp_attempt.specs.Fronts.{AreSound}
-use Rattle.hp_fire.specs.Groups.{IsRetried}
+use Rattle.hp_fire.specs.Groups.{IsRetried, firsts}
 use Rattle.hp_fire.proofs.Coming.{ahead_same, ahead_settled, comes_same}
 use Rattle.hp_fire.proofs.Helping.{unmapped_none, sound_drop, so_far_settled, stopped_by_none}
 use Rattle.hp_fire.proofs.speculate.progress.Progress.settle.Goals as goal
@@ -23,7 +23,10 @@ returns-clause-ahead c =
     ∙ ap (λ n. length c.args.self.now.settled.outcomes.items + n) (sym count) in
     ahead_settled c.args.self.now _ c.len-count.result long
     (λ none. unmapped_none veto c.add_front.new.self.end (c.in_ok-add_front.ensures.end ∙ stopped_by_none c.args.stop_at_veto c.in_ok-front.front.items (sym count ∙ none)))
-    c.add_kept.ensures.same c.add_kept.ensures.accepted
+    c.add_kept.ensures.same
+    (subst (λ n. c.add_kept.new.self.accepted + firsts c.args.self.now.counts.retried.items n
+    ≡ c.args.self.now.counts.accepted + firsts c.args.self.now.counts.retried.items (n + c.len-count.result)) done c.add_kept.ensures.exactly)
+    c.add_kept.ensures.accepted
     (λ some is. c.add_kept.ensures.retried some (subst (IsRetried c.args.self.now.counts) (sym done) is))
 
 pub returns-clause-comes : goal.returns-clause-comes

@@ -29,4 +29,5 @@ loop-preserved g c =
       c.accept_sent.ensures.channels lib so_far.1,
       c.note_veto.ensures.worker,
       c.note_veto.ensures.wave ∙ c.next_attempt.ensures.wave ∙ so_far.3,
+      c.accept_sent.ensures.waves ∙ so_far.4,
     )

@@ -1,0 +1,6 @@
+use Rattle.std.proofs.Common.{◌≡◌}
+use Rattle.hp_analysis.specs.Declarations.{declared}
+use Rattle.hp_analysis.proofs.kinds.infer.allow_plain_rules.Given as goal
+
+abbrev pub invariant-loop-rule : goal.invariant-loop-rule
+invariant-loop-rule l = (declared l.declaration).signatures ≡ (declared l.fn.declaration).signatures

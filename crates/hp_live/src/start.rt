@@ -1,0 +1,159 @@
+//! How a run begins.
+
+ghost use Rattle.std.specs.Prelude.{◌≡◌, ◌≢◌, ◌↔◌, [], IfOk, Some, None, true, false};
+ghost use Rattle.std.specs.Io.KnownBytes.{Consumes};
+ghost use Rattle.hp_analysis.specs.Declarations.{declared};
+ghost use Rattle.hp_checked.specs.Readings.{KeepsGiven};
+ghost use Rattle.hp_live.specs.Kept.{declared_of};
+
+use hp_analysis::Declaration;
+use hp_checked::declaration_for;
+use hp_report::{Fault, Source};
+use std::alloc::{AllocError, Global};
+
+/// The bytes that are read ahead at most, before the last piece. A line of so many bytes is no script.
+const MOST_AHEAD: usize = 1_048_577;
+
+/// What a run begins with.
+#[derive(Drop)]
+pub struct Start {
+    /// The bytes of the script's file, if there is one. Else the first line of the input is the script.
+    pub script: Option<Vec<u8>>,
+    /// What is declared of signals, if the rule base is checked.
+    pub checks: Option<Declaration>,
+    /// The bytes of the input that have been read.
+    pub ahead: Vec<u8>,
+}
+
+impl Start {
+    /// What a run begins with, whose rule base is checked if signatures of signals are given, be they none. Then a
+    /// declaration that keeps these is found for the script: for the file's, or else for the first line, up to whose
+    /// end the reader is read.
+    ///
+    /// The reader must not have failed before. After a fault some of it may have been read.
+    pub fn of<R: Source>(
+        alloc: Global,
+        script: Option<Vec<u8>>,
+        given: Option<Declaration>,
+        is_text: bool,
+        reader: &mut R,
+    ) -> Result<Start, Fault>
+        requires { R.has_failed reader.old ≡ false }
+        ensures script { IfOk result (λ start. start.script ≡ script) }
+        ensures checks { IfOk result (λ start. KeepsGiven (declared_of given) (declared_of start.checks)) }
+        ensures ahead { IfOk result (λ start.
+            Consumes (R.remaining reader.old) (R.remaining reader.new) start.ahead.items) }
+        ensures read { result ≡ Err Fault.Read ↔ (R.has_failed reader.new ≡ true) }
+        ensures write { result ≢ Err Fault.Write }
+    {
+        match given {
+            Some(given) => Start::checked(alloc, script, given, is_text, reader),
+            None => Ok(Start {
+                script,
+                checks: None,
+                ahead: Vec::new(alloc),
+            }),
+        }
+    }
+
+    /// What a checked run begins with.
+    fn checked<R: Source>(
+        alloc: Global,
+        script: Option<Vec<u8>>,
+        given: Declaration,
+        is_text: bool,
+        reader: &mut R,
+    ) -> Result<Start, Fault>
+        requires { R.has_failed reader.old ≡ false }
+        ensures script { IfOk result (λ start. start.script ≡ script) }
+        ensures checks { IfOk result (λ start. KeepsGiven (Some (declared given)) (declared_of start.checks)) }
+        ensures ahead { IfOk result (λ start.
+            Consumes (R.remaining reader.old) (R.remaining reader.new) start.ahead.items) }
+        ensures read { result ≡ Err Fault.Read ↔ (R.has_failed reader.new ≡ true) }
+        ensures write { result ≢ Err Fault.Write }
+    {
+        match script {
+            Some(file) => Ok(Start::by_file(alloc, file, given, is_text)?),
+            None => Start::by_line(alloc, given, is_text, reader),
+        }
+    }
+
+    /// What a checked run begins with, if its script is a file's.
+    fn by_file(
+        alloc: Global,
+        file: Vec<u8>,
+        given: Declaration,
+        is_text: bool,
+    ) -> Result<Start, AllocError>
+        ensures script { IfOk result (λ start. start.script ≡ Some file) }
+        ensures checks { IfOk result (λ start. KeepsGiven (Some (declared given)) (declared_of start.checks)) }
+        ensures ahead { IfOk result (λ start. start.ahead.items ≡ []) }
+    {
+        let declaration = declaration_for(alloc, &file, is_text, given)?;
+        Ok(Start {
+            script: Some(file),
+            checks: Some(declaration),
+            ahead: Vec::new(alloc),
+        })
+    }
+
+    /// What a checked run begins with, if its script is the first line.
+    fn by_line<R: Source>(
+        alloc: Global,
+        given: Declaration,
+        is_text: bool,
+        reader: &mut R,
+    ) -> Result<Start, Fault>
+        requires { R.has_failed reader.old ≡ false }
+        ensures script { IfOk result (λ start. start.script ≡ None) }
+        ensures checks { IfOk result (λ start. KeepsGiven (Some (declared given)) (declared_of start.checks)) }
+        ensures ahead { IfOk result (λ start.
+            Consumes (R.remaining reader.old) (R.remaining reader.new) start.ahead.items) }
+        ensures read { result ≡ Err Fault.Read ↔ (R.has_failed reader.new ≡ true) }
+        ensures write { result ≢ Err Fault.Write }
+    {
+        let ahead = read_line(alloc, reader)?;
+        let declaration = declaration_for(alloc, first_line(&ahead), is_text, given)?;
+        Ok(Start {
+            script: None,
+            checks: Some(declaration),
+            ahead,
+        })
+    }
+}
+
+/// The bytes of the first line, if they are complete.
+fn first_line(bytes: &[u8]) -> &[u8] {
+    match bytes.iter().position(|byte| *byte == b'\n') {
+        Some(length) => &bytes[..length],
+        None => bytes,
+    }
+}
+
+/// Reads pieces up to one in which a line ends, or to the reader's end, or so many that the line is too long.
+fn read_line<R: Source>(alloc: Global, reader: &mut R) -> Result<Vec<u8>, Fault>
+    requires { R.has_failed reader.old ≡ false }
+    ensures ahead { IfOk result (λ bytes.
+        Consumes (R.remaining reader.old) (R.remaining reader.new) bytes.items) }
+    ensures read { result ≡ Err Fault.Read ↔ (R.has_failed reader.new ≡ true) }
+    ensures write { result ≢ Err Fault.Write }
+{
+    let mut bytes = Vec::new(alloc);
+    let mut buf = [0u8; 4096];
+    for _ in 0..u64::MAX {
+        if MOST_AHEAD <= bytes.len() || reader.ended() {
+            return Ok(bytes);
+        }
+        match reader.read(&mut buf) {
+            Ok(count) => {
+                let piece = &buf[..count];
+                bytes.extend_from_slice(piece)?;
+                if piece.contains(&b'\n') {
+                    return Ok(bytes);
+                }
+            }
+            Err(_) => return Err(Fault::Read),
+        }
+    }
+    Err(Fault::NoMemory)
+}

@@ -1,0 +1,13 @@
+//! Reads the signatures of signals that a file declares.
+//!
+//! `specs/Signals.antt` says what such a file means.
+#![tactic(auto)]
+
+mod fault;
+mod file;
+mod parts;
+mod reading;
+
+pub use fault::SignalsFault;
+pub use file::signals_of_file;
+pub use reading::read_signals;
