@@ -11,12 +11,17 @@ import re
 # The head of a function, with its indentation and its name.
 HEAD = re.compile(r"( *)(?:pub(?:\([a-z ]+\))? )?(?:const )?fn (\w+)")
 
+# The head of an impl, with its trait, if it has one, and its type.
+IMPL = re.compile(r"impl(?:<.*?>)? (?:(?P<of>[\w:]+)(?:<.*?>)? for )?(?P<type>[\w:]+)")
+
 
 class Body:
     """An edit that changes lines of one function alone."""
 
     def __init__(self, path, file, name, lines):
         self.path, self.file, self.name = path, file, name
+        # The function's path below the crate, as the prover prints it.
+        self.place = ""
         # The numbers of its first and last line.
         self.first, self.last = lines
         # The changed lines, by their numbers, and the words that they hold and did not hold before.
@@ -54,6 +59,22 @@ def functions(text):
     return found
 
 
+def module_of(file):
+    """The module that a file of src/ is, by its path below the crate. It is empty for the crate's root and for another
+    file."""
+    path = re.sub(r"(/mod)?\.rt$", "", file)
+    return "" if path in ("src/lib", "src/main") or not path.startswith("src/") else path[4:].replace("/", "::")
+
+
+def place_of(file, text, first, name):
+    """The path below the crate of the function of this name that begins at a line."""
+    lines = text.split("\n")[: first - 1]
+    is_method = text.split("\n")[first - 1].startswith(" ")
+    heads = [IMPL.match(line) for line in lines if line.startswith("impl")] if is_method else []
+    owner = heads[-1]["type"].rpartition("::")[2] + (heads[-1]["of"] or "").rpartition("::")[2] if heads else ""
+    return "::".join(part for part in (module_of(file), owner, name) if part)
+
+
 def unique_names(texts):
     """The names that only one function of these texts has."""
     numbers = collections.Counter(name for text in texts for name, _ in functions(text))
@@ -77,6 +98,7 @@ def body_of(path, before, after):
     for name, (first, last) in functions(before[file]):
         if all(first <= number <= last for number in changed):
             body = Body(path, file, name, (first, last))
+            body.place = place_of(file, before[file], first, name)
             body.changed = changed
             body.words = {word for number, line in changed.items() for word in words(line) - words(old[number - 1])}
             return body

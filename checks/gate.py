@@ -20,7 +20,9 @@ from harness import LIMIT, TOP, expect, run_checks
 # the first line of it. (A word ends it by a signal.)
 SCRIPTS = (
     "checks/refused_growths.py",
+    "checks/layout.py",
     "checks/more_edits.py",
+    "checks/must_fail.py",
     "checks/python.py",
     "checks/gate.py",
     "checks/programs.py",
@@ -70,6 +72,8 @@ case $1 in
     ;;
   ci)
     mkdir -p crates/hipac/out
+    find . -name '*.edit' >"$notes/edits"
+    find . -name 'rooms' >"$notes/rooms"
     if [ -e "$notes/ci" ]; then cat "$notes/ci"; exit 1; fi
     echo "rt: all is proved"
     echo "7 passed, 0 failed"
@@ -83,10 +87,10 @@ UNIT_TESTS = sorted(path[len(os.path.join(TOP, "tests", "")) : -len(".rs")]
                     for path in glob.glob(os.path.join(TOP, "tests", "*", "*.rs")) if not path.endswith("/lib.rs"))
 FOLDERS = sorted({name.split("/")[0] for name in UNIT_TESTS})
 
-# How many pass in the tree: two in each script and one for each program that is made; the unit tests, one of app_tests,
-# and their layout.
-QUICK = 2 * (len(SCRIPTS) - 1) + 5 + len(UNIT_TESTS) + 2
-PROVED = QUICK + 7 + 2 * 6
+# How many pass in the tree: two in each script but those that make programs and try edits, and one for each program
+# that is made; the unit tests, one of app_tests, and their layout.
+QUICK = 2 * (len(SCRIPTS) - 2) + 5 + len(UNIT_TESTS) + 2
+PROVED = QUICK + 7 + 2 * 7
 
 # The folders of tests in Python: the part of ./test that runs them, its script, and how many programs it needs.
 PYTHON_TESTS = {
@@ -138,6 +142,7 @@ class Tree:
         self.write("HANDLES", "Handles allowed: none.\n")
         self.write("crates/low/src/lib.rt", "//! low\n")
         self.write("crates/app/src/main.rt", "//! app\n")
+        self.write("crates/app/must-fail/some.edit", "file: src/main.rt\nold: app\nnew: other\n")
         for name in [*UNIT_TESTS, *(f"{folder}/lib" for folder in FOLDERS)]:
             self.write(f"tests/{name}.rs", text_of(os.path.join(TOP, "tests", f"{name}.rs")))
         self.write("tests/app_tests/lib.rs", "//! Tests.\n\nmod first;\n")
@@ -197,16 +202,17 @@ def counts_all(tree):
 
 
 def proves_all(tree):
-    """The gate also counts what `rt ci` and the checks of the proved programs count."""
+    """The gate also counts what `rt ci`, the edits and the checks of the proved programs count. `rt ci` gets no edit."""
     status, lines, last = tree.run(".ci/run")
     expect((status, last), (0, f"{PROVED} passed, 0 failed"), "\n".join(lines[-30:]))
     calls = tree.calls()
-    proving = calls.index("rt ci")
-    after = [it for it in calls[proving + 1 :]]
-    scripts = ("checking", "conditions", "live_sessions", "notation", "programs", "version4")
-    expect(sorted(it.split()[0] for it in after), [f"checks/{name}.py" for name in scripts], after)
-    expect([it for it in after if "--proved" in it],
-           [f"checks/programs.py --proved {tree.top}/crates/hipac/out/hipac"], "the check of the proved program")
+    after = [it.split() for it in calls[calls.index("rt ci") + 1 :]]
+    scripts = ("checking", "conditions", "live_sessions", "must_fail", "notation", "programs", "version4")
+    expect(sorted(it[0] for it in after), [f"checks/{name}.py" for name in scripts], after)
+    copy = next(it[1] for it in after if it[0] == "checks/must_fail.py")
+    expect([it[1:] for it in after if "--proved" in it], [["--proved", f"{copy}/crates/hipac/out/hipac"]],
+           "the check of the proved program")
+    expect(text_of(os.path.join(tree.notes, "edits")), "", "the edits that rt ci finds")
 
 
 def catches_tests(tree):
@@ -278,14 +284,19 @@ def catches_wrong_reports(tree):
     expect_failure(tree, ["./test", "--prove"], (PROVED - 1, 1), "FAILED script 3")
 
 
-def proves_beside_rooms(tree):
-    """Where ./build has left its rooms, `rt ci` runs on a copy of what git knows."""
-    tree.write(".gitignore", ".built/\n")
-    subprocess.run(["git", "init", "-q", "."], cwd=tree.top, check=True)
-    tree.write(".built/rooms/low/crates.txt", "low:\n")
+def catches_edits(tree):
+    """An edit that the prover doesn't refuse is caught."""
+    tree.note("must_fail.py", "1\nFAILED app/some: NOT REFUSED: the crate is still proved\n1 passed, 1 failed\n")
+    expect_failure(tree, ["./test", "--prove"], (PROVED - 1, 1), "FAILED app/some")
+
+
+def proves_a_copy(tree):
+    """`rt ci` runs on a copy: it leaves nothing here, and sees no room of ./build."""
+    tree.write(".built/rooms/low/src/lib.rt", "//! low\n")
     status, lines, last = tree.run("./test", "--prove")
     expect((status, last), (0, f"{PROVED} passed, 0 failed"), "\n".join(lines[-30:]))
     expect(os.path.exists(os.path.join(tree.top, "crates", "hipac")), False, "whether rt ci ran here")
+    expect("room" in text_of(os.path.join(tree.notes, "rooms")), False, "the rooms that rt ci finds")
 
 
 def ends_its_parts(tree):
@@ -321,7 +332,8 @@ CHECKS = (
     proves_nothing_in_vain,
     catches_proofs,
     catches_wrong_reports,
-    proves_beside_rooms,
+    catches_edits,
+    proves_a_copy,
     ends_its_parts,
     missing_program,
 )

@@ -74,6 +74,9 @@ GAVE_UP = "gave up at one of its limits"
 NO_PROOF = re.compile(r"fn \S+: no proof: ")
 SEARCHED = re.compile(NO_PROOF.pattern + r"expected answers in \S+; `search` did not prove `")
 
+# The last line of a check of some functions alone, and that of a check of a crate that isn't proved.
+JUDGED = re.compile(r"logic=not-proved|only=\d+ proved=\d+$")
+
 SIGNALS = (signal.SIGINT, signal.SIGTERM, signal.SIGHUP)
 
 
@@ -318,6 +321,11 @@ def is_unread(line, changed):
     return not found[2] or bool(UNREAD.search(re.sub(r"`[^`]*`", "", found[3])))
 
 
+def is_judged(status, lines):
+    """Whether the prover judged all that it was asked for, and refused some of it."""
+    return status == 1 and any(map(JUDGED.match, lines))
+
+
 def complaints(lines):
     """The lines that complain, but for those of a proof that names what is not there."""
     told = [line for line in lines if COMPLAINT.match(line)]
@@ -327,8 +335,7 @@ def complaints(lines):
 def refused_of(group, status, lines, changed):
     """Of the edits of a group, those that their check shows to be refused, each with the line that shows it. `None` if
     the prover couldn't read one of them or couldn't tell, so that the check says nothing of the others."""
-    is_judged = status == 0 or any(line.startswith("logic=not-proved") for line in lines)
-    if not is_judged or any(is_unread(line, changed) for line in lines):
+    if (status != 0 and not is_judged(status, lines)) or any(is_unread(line, changed) for line in lines):
         return None
     # (that one function isn't proved is no reason to refuse another one)
     places = [(UNPROVED.match(line), line) for line in lines if not NO_SUCH_NAME.search(line)]
@@ -348,7 +355,7 @@ def came_to(status, lines, changed):
             return BAD, line
     if status == 0:
         return PROVED, "the crate is still proved"
-    if status != 1 or not any(line.startswith("logic=not-proved") for line in lines):
+    if not is_judged(status, lines):
         return BAD, next((line for line in lines if "error" in line), lines[-1])
     shown = complaints(lines) + [line for line in lines if UNPROVED.match(line) and not COMPLAINT.match(line)]
     shown += [line for line in lines if SEARCHED.match(line)]

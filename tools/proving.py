@@ -49,27 +49,22 @@ class Listener:
             self.failures.append(line)
 
 
+# What a copy of the repository leaves out: what git doesn't see, and the edits that checks/must_fail.py tries.
+LEFT_OUT = (".git", ".built", "out", "__pycache__", repo.GATE_EDITS)
+
+
 def copied(to: str) -> str:
-    """A copy of the files here that git knows or would add, as the top of a repository."""
-    words = ["git", "ls-files", "-z", "--cached", "--others", "--exclude-standard"]
-    for path in repo.output_of(words, cwd=repo.TOP).split("\0"):
-        if os.path.isfile(os.path.join(repo.TOP, path)):
-            os.makedirs(os.path.dirname(os.path.join(to, path)), exist_ok=True)
-            shutil.copy2(os.path.join(repo.TOP, path), os.path.join(to, path))
+    """A copy of the files here, as the top of a repository, without the edits of the gate: `rt ci` would prove each
+    crate a second time to try them."""
+    shutil.copytree(repo.TOP, to, symlinks=True, ignore=shutil.ignore_patterns(*LEFT_OUT))
     os.mkdir(os.path.join(to, ".git"))
     return to
 
 
-def place_to_prove(room: str) -> str:
-    """Where `rt ci` runs: here, or in a copy if ./build has left its rooms here. `rt` refuses the files of crates in
-    them."""
-    return copied(os.path.join(room, "copy")) if os.path.isdir(repo.ROOMS) else repo.TOP
-
-
 def prove(run: Run, crates: list[str], room: str) -> str:
-    """Runs `rt ci`, on these crates alone if there are any, and adds its count to the run. Gives the folder that it ran
-    in."""
-    folder = repo.TOP if crates else place_to_prove(room)
+    """Runs `rt ci` on a copy in a folder, on these crates alone if there are any, and adds its count to the run. Gives
+    the copy."""
+    folder = copied(os.path.join(room, "copy"))
     processors = len(os.sched_getaffinity(0))
     variables = {"RT_JOBS": str(min(processors, MOST_JOBS)), **os.environ}
     run.say(f"rt ci {' '.join(crates)}".rstrip() + f", {variables['RT_JOBS']} checks at a time")

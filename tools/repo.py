@@ -131,6 +131,11 @@ def output_of(words: list[str], **how) -> str:
     return said.strip()
 
 
+def toolchain() -> str:
+    """The folder of the Rattle toolchain."""
+    return os.path.dirname(output_of(["rt", "doc"]))
+
+
 def key_of(name: str, *folders: str, top: str = TOP) -> str:
     """The checksum of these folders of a crate and of all that it uses."""
     return output_of([os.path.join(TOP, "tools", "key"), top, name, *folders])

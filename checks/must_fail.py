@@ -1,0 +1,157 @@
+#!/usr/bin/env python3
+"""Tries the edits of crates/NAME/must-fail: the prover must refuse each of them.
+
+    checks/must_fail.py FOLDER [NAME ..]
+
+FOLDER is a copy of this repository in which `rt ci` has proved all crates. Its libraries are used as they are. The
+edits of a crate that change different functions are tried in one check, which looks at these functions and at those
+that they call, and at nothing else: each function is proved against the contracts of the others. An edit is refused if
+the prover complains of the function that it changes. What that doesn't show to be refused is then tried alone, in a
+check of the modules that it changes, and at last in one of the whole crate. An edit of a definition is tried alone, in
+a check of the whole crate.
+
+An edit isn't refused if the prover complains only of a proof that names what the edit took away, or of a search that
+ended at a limit: then no contract was shown to fail. As many crates are tried side by side as there are processors.
+The last line is 'N passed, M failed'.
+"""
+
+import concurrent.futures
+import os
+import shutil
+import subprocess
+import sys
+import tempfile
+import time
+
+from edited_functions import body_of, module_of, texts_with, together, unique_names
+from harness import repo
+from more_edits import BAD, REFUSED, came_to, edited, refused_of, text_of, with_their_ends
+
+PROCESSORS = len(os.sched_getaffinity(0))
+
+
+class Proved:
+    """The crates of a folder in which `rt ci` has built the libraries."""
+
+    def __init__(self, folder):
+        self.top, self.kit, self.known = folder, repo.toolchain(), repo.crates(folder)
+
+    def rlib(self, name):
+        return os.path.join(self.top, "crates", name, "out", "rlib", f"{name}.rlib")
+
+    def words(self, name):
+        """The command that checks a crate in the current folder over the libraries of this one."""
+        of_kit, crate = os.path.join(self.kit, "rlibs"), self.known[name]
+        root = "src/main.rt" if repo.is_program(name, self.top) else "src/lib.rt"
+        words = [os.path.join(self.kit, "bin", "rattle"), "check", "--crate-name", name, root]
+        for library in ("std", *crate.libraries):
+            words += ["--extern", f"{library}={of_kit}/{library}.rlib"]
+        words += ["-L", f"dependency={of_kit}"]
+        for used in crate.uses:
+            words += ["--extern", f"{used}={self.rlib(used)}"]
+        for below in repo.with_used(crate.uses, self.known):
+            words += ["-L", f"dependency={os.path.dirname(self.rlib(below))}"]
+        words += ["--antt-project", os.path.join(self.kit, "rattle", "logic", "antt-project.json")]
+        return [*words, "--logic-built", os.path.join(self.kit, "logic_built"), "--jobs", "1"]
+
+    def check(self, name, texts, only):
+        """Checks a crate with these texts in place of its own: what `only` names, or all of it. The result is the
+        status and the lines of the check."""
+        with tempfile.TemporaryDirectory(prefix="must-fail-") as room:
+            for part in repo.PARTS:
+                source = os.path.join(self.top, "crates", name, part)
+                if os.path.isdir(source):
+                    shutil.copytree(source, os.path.join(room, part))
+            for path, text in texts.items():
+                with open(os.path.join(room, path), "w", encoding="utf-8") as file:
+                    file.write(text)
+            words = [*self.words(name), *(word for path in only for word in ("--only", path))]
+            done = subprocess.run(words, cwd=room, stdin=subprocess.DEVNULL, stdout=subprocess.PIPE,
+                                  stderr=subprocess.STDOUT, check=False, encoding="utf-8", errors="replace")
+        return done.returncode, with_their_ends(done.stdout.rstrip("\n").split("\n"))
+
+
+class Tries:
+    """The tries of a crate's edits, and what came of each."""
+
+    def __init__(self, proved, crate):
+        self.proved, self.crate = proved, crate
+        sources = os.path.join(proved.top, "crates", crate, "src")
+        paths = [os.path.join(at, name) for at, _, names in os.walk(sources) for name in names if name.endswith(".rt")]
+        self.unique = unique_names(map(text_of, paths))
+        # Of each edit by its path: what it came to, and the line that shows it.
+        self.found = {}
+        self.seconds = 0.0
+
+    def text(self, path):
+        return text_of(os.path.join(self.proved.top, "crates", self.crate, path))
+
+    def body(self, path):
+        """The edit as a change of one function, if it is one."""
+        texts, _ = edited(self.crate, path)
+        body = body_of(path, {file: self.text(file) for file in texts}, texts) if texts else None
+        if body:
+            body.is_unique = body.name in self.unique
+        return body
+
+    def group(self, group):
+        """Tries edits of different functions in one check of these. The result is the paths of those that it doesn't
+        show to be refused."""
+        texts = texts_with(group, self.text)
+        refused = refused_of(group, *self.proved.check(self.crate, texts, [body.place for body in group]), texts) or {}
+        for path, shown in refused.items():
+            self.found[path] = REFUSED, shown
+        return [body.path for body in group if body.path not in refused]
+
+    def one(self, path):
+        """Tries an edit alone: the modules that it changes and, where that shows nothing, the whole crate."""
+        texts, why = edited(self.crate, path)
+        self.found[path] = BAD, why
+        modules = [module_of(file) for file in texts or []]
+        for only in [modules] * all(modules) + [[]] if texts else []:
+            self.found[path] = came_to(*self.proved.check(self.crate, texts, only), texts)
+            if self.found[path][0] == REFUSED:
+                return
+
+    def run(self):
+        """Tries all edits of the crate that the gate tries."""
+        begun, paths = time.monotonic(), repo.edits(self.crate, repo.GATE_EDITS)
+        bodies = [body for body in map(self.body, paths) if body]
+        left = [path for path in paths if path not in {body.path for body in bodies}]
+        for group in together(bodies):
+            left += self.group(group)
+        for path in left:
+            self.one(path)
+        self.seconds = time.monotonic() - begun
+        return self
+
+
+def tell(tries):
+    """Prints what the edits of a crate came to. Gives how many were refused, and how many weren't."""
+    for path, (kind, shown) in sorted(tries.found.items()):
+        head = "" if kind == REFUSED else "FAILED "
+        print(f"{head}{tries.crate}/{os.path.basename(path)[: -len('.edit')]}: {kind}: {shown.strip()[:200]}")
+    kinds = [kind for kind, _ in tries.found.values()]
+    print(f"{tries.crate}: {kinds.count(REFUSED)} of {len(kinds)} refused, {tries.seconds:.0f} seconds", flush=True)
+    return kinds.count(REFUSED), len(kinds) - kinds.count(REFUSED)
+
+
+def main(words):
+    if not words or not os.path.isdir(words[0]) or set(words[1:]) - set(repo.crates()):
+        print(__doc__.strip(), file=sys.stderr)
+        return 2
+    proved = Proved(os.path.abspath(words[0]))
+    crates = words[1:] or [name for name in proved.known if repo.edits(name, repo.GATE_EDITS)]
+    passed, failed = 0, 0
+    with concurrent.futures.ThreadPoolExecutor(PROCESSORS) as pool:
+        # (those that take longest first)
+        running = [pool.submit(Tries(proved, crate).run) for crate in sorted(crates, key=repo.cost_of, reverse=True)]
+        for one in concurrent.futures.as_completed(running):
+            refused, others = tell(one.result())
+            passed, failed = passed + refused, failed + others
+    print(f"{passed} passed, {failed} failed")
+    return 1 if failed else 0
+
+
+if __name__ == "__main__":
+    sys.exit(main(sys.argv[1:]))
