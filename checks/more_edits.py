@@ -74,6 +74,9 @@ GAVE_UP = "gave up at one of its limits"
 NO_PROOF = re.compile(r"fn \S+: no proof: ")
 SEARCHED = re.compile(NO_PROOF.pattern + r"expected answers in \S+; `search` did not prove `")
 
+# A line that says that a loop isn't shown to end, which each function promises that doesn't wait.
+ENDLESS = re.compile(NO_PROOF.pattern + r"expected a measure in ")
+
 # The last line of a check of some functions alone, and that of a check of a crate that isn't proved.
 JUDGED = re.compile(r"logic=not-proved|only=\d+ proved=\d+$")
 
@@ -358,7 +361,7 @@ def came_to(status, lines, changed):
     if not is_judged(status, lines):
         return BAD, next((line for line in lines if "error" in line), lines[-1])
     shown = complaints(lines) + [line for line in lines if UNPROVED.match(line) and not COMPLAINT.match(line)]
-    shown += [line for line in lines if SEARCHED.match(line)]
+    shown += [line for line in lines if SEARCHED.match(line) or ENDLESS.match(line)]
     if shown:
         judged = [line for line in shown if GAVE_UP not in line]
         return (REFUSED, judged[0]) if judged else (AT_LIMIT, shown[0])
