@@ -72,10 +72,10 @@ GAVE_UP = "gave up at one of its limits"
 
 # A line that says that a function has no proof: since no search found one, or since none was begun.
 NO_PROOF = re.compile(r"fn \S+: no proof: ")
-SEARCHED = re.compile(NO_PROOF.pattern + r"expected answers in \S+; `search` did not prove `")
+SEARCHED = re.compile(NO_PROOF.pattern + r"expected answers in (?:\./)?(\S+); `search` did not prove `")
 
 # A line that says that a loop isn't shown to end, which each function promises that doesn't wait.
-ENDLESS = re.compile(NO_PROOF.pattern + r"expected a measure in ")
+ENDLESS = re.compile(NO_PROOF.pattern + r"expected a measure in (?:\./)?(\S+)")
 
 # The last line of a check of some functions alone, and that of a check of a crate that isn't proved.
 JUDGED = re.compile(r"logic=not-proved|only=\d+ proved=\d+$")
@@ -335,16 +335,23 @@ def complaints(lines):
     return [line for line in told if not (COMPLAINT.match(line)[1].startswith("proofs/") and NO_SUCH_NAME.search(line))]
 
 
+def place_in(line):
+    """The file and the line of what a line says isn't proved, if it says so. Of a function without a proof it is the
+    file that its proof would have."""
+    found, without = UNPROVED.match(line), SEARCHED.match(line) or ENDLESS.match(line)
+    return (found[1], int(found[2])) if found else (without[1], 0) if without else None
+
+
 def refused_of(group, status, lines, changed):
     """Of the edits of a group, those that their check shows to be refused, each with the line that shows it. `None` if
     the prover couldn't read one of them or couldn't tell, so that the check says nothing of the others."""
     if (status != 0 and not is_judged(status, lines)) or any(is_unread(line, changed) for line in lines):
         return None
     # (that one function isn't proved is no reason to refuse another one)
-    places = [(UNPROVED.match(line), line) for line in lines if not NO_SUCH_NAME.search(line)]
+    places = [(place_in(line), line) for line in lines if not NO_SUCH_NAME.search(line)]
     found = {}
     for body in group:
-        of_it = (line for place, line in places if place and body.has(place[1], int(place[2])) and GAVE_UP not in line)
+        of_it = (line for place, line in places if place and body.has(*place) and GAVE_UP not in line)
         shown = next(of_it, None)
         if shown:
             found[body.path] = shown
