@@ -46,5 +46,5 @@ pub use refusal::{DecodeError, Refusal};
 pub use request::{Excerpt, Request, decode_request, decode_request_value};
 pub use schedule::Schedule;
 pub use script::Script;
-pub use shown::refusal_text;
+pub use shown::{Path, Steps, refusal_text};
 pub use version::Version;
