@@ -5,7 +5,6 @@
 
 mod fault;
 mod file;
-mod parts;
 mod reading;
 
 pub use fault::SignalsFault;
