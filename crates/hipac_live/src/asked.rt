@@ -4,18 +4,13 @@ ghost use Rattle.std.specs.Prelude.{◌≡◌, IfOk, None, is_some, option_map, 
 ghost use Rattle.hipac_live.specs.Asked.{IsOfWords, AreGiven, code_unasked};
 
 use hp_analysis::Declaration;
-use hp_report::{ReadFault, Watched, read_up_to};
+use hp_report::{ReadFault, bytes_of_file};
 use hp_signals::{SignalsFault, signals_code, signals_of_file};
 use hp_words::{Options, WordFault, live_options_of, word_code};
 use std::alloc::Global;
 use std::env::Env;
-use std::fs;
-use std::io::ErrorKind;
 use std::rt::Files;
 use thiserror::Error;
-
-/// The most bytes of a script's file that are read: one more than a script may have is enough to refuse it.
-const MOST_READ: usize = 1_048_577;
 
 /// What a command line asks for.
 #[derive(Drop)]
@@ -100,23 +95,10 @@ fn bytes_if<R: Files + AllocGlobal>(
 
 /// The bytes of a file, or the first 1,048,577 of them.
 fn bytes_of<R: Files + AllocGlobal>(rt: &R, name: &str) -> Result<Vec<u8>, Unasked> {
-    let file = match fs::open(rt, name) {
-        Ok(file) => file,
-        Err(error) => return Err(unread_by(error.kind() == ErrorKind::OutOfMemory)),
-    };
-    let mut reader = Watched::new(file);
-    match read_up_to(rt.alloc(), &mut reader, MOST_READ) {
+    match bytes_of_file(rt, name) {
         Ok(bytes) => Ok(bytes),
-        Err(fault) => Err(unread_by(fault == ReadFault::NoMemory)),
-    }
-}
-
-/// Why a file has no bytes.
-fn unread_by(no_memory: bool) -> Unasked {
-    if no_memory {
-        Unasked::Words(WordFault::NoMemory)
-    } else {
-        Unasked::Script
+        Err(ReadFault::Read) => Err(Unasked::Script),
+        Err(ReadFault::NoMemory) => Err(Unasked::Words(WordFault::NoMemory)),
     }
 }
 
