@@ -85,7 +85,7 @@ fn bytes_if<R: Files + AllocGlobal>(
     rt: &R,
     name: &Option<String>,
 ) -> Result<Option<Vec<u8>>, Unasked>
-    ensures { IfOk result (λ bytes. is_some bytes ≡ is_some name.now) }
+    ensures { IfOk result (λ bytes. is_some bytes ≡ is_some (option_map string_bytes name.now)) }
 {
     match name {
         Some(name) => Ok(Some(bytes_of(rt, name)?)),
