@@ -3,4 +3,4 @@ pub mod Written
 pub mod Longest
 pub mod RuleLines
 pub mod Checked
-pub mod Spans
+pub mod Pushed

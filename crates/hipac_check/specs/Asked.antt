@@ -1,13 +1,11 @@
 -- What the words of the command line ask for.
 use Rattle.std.specs.Prelude.{◌≡◌, ℕ, List, [], Option, Some, None, Ok}
 use Rattle.hp_signals.specs.Mapped.{AreOfBytes}
-use Rattle.hp_signals.specs.declared.fault.SignalsFault.{SignalsFault}
-use Rattle.hp_signals.specs.declared.fault.SignalsFault.TheVariants as s
+use Rattle.hp_signals.specs.Exits.{code_of_signals}
 use Rattle.hp_analysis.specs.Declarations.{declared}
 use Rattle.hp_analysis.specs.declared.kinds.declaration.Declaration.{Declaration}
 use Rattle.hp_words.specs.CheckWords.{AreOfCheckWords}
 use Rattle.hp_words.specs.Words.{word_code_of}
-use Rattle.hp_words.specs.declared.words.WordFault.TheVariants.{Refused, NoMemory}
 use Rattle.hipac_check.specs.declared.asked.Asked.{Asked}
 use Rattle.hipac_check.specs.declared.asked.Unasked.{Unasked}
 use Rattle.hipac_check.specs.declared.asked.Unasked.TheVariants.{Words, Signals}
@@ -24,11 +22,6 @@ pub record IsOfWords (asked : Asked) : Type 0 where
   pub signals : AreOfFile name asked.signals
 
 -- the program's exit status where nothing is asked
-abbrev pub code_of_signals : SignalsFault → ℕ
-code_of_signals (s.Refused r) = word_code_of Refused
-code_of_signals s.Unread = word_code_of Refused
-code_of_signals s.Memory = word_code_of NoMemory
-
 abbrev pub code_unasked : Unasked → ℕ
 code_unasked (Words fault) = word_code_of fault
 code_unasked (Signals fault) = code_of_signals fault

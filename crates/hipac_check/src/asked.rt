@@ -1,11 +1,10 @@
 //! What the command line asks for, with the signals that its file declares.
 
 ghost use Rattle.std.specs.Prelude.{◌≡◌, IfOk, option_map, string_bytes};
-ghost use Rattle.hipac_check.specs.Asked.{IsOfWords, AreOfFile, code_unasked, code_of_signals};
-ghost use Rattle.hipac_check.specs.declared.asked.Unasked.TheVariants.{Words, Signals};
+ghost use Rattle.hipac_check.specs.Asked.{IsOfWords, AreOfFile, code_unasked};
 
 use hp_analysis::Declaration;
-use hp_signals::{SignalsFault, signals_of_file};
+use hp_signals::{SignalsFault, signals_code, signals_of_file};
 use hp_words::{WordFault, check_options_of, word_code};
 use std::env::Env;
 use std::rt::Files;
@@ -31,29 +30,13 @@ pub enum Unasked {
     Signals(SignalsFault),
 }
 
-impl From<WordFault> for Unasked {
-    ghost from_gives = { λ fault unasked. unasked ≡ Words fault };
-
-    fn from(fault: WordFault) -> Unasked {
-        Unasked::Words(fault)
-    }
-}
-
-impl From<SignalsFault> for Unasked {
-    ghost from_gives = { λ fault unasked. unasked ≡ Signals fault };
-
-    fn from(fault: SignalsFault) -> Unasked {
-        Unasked::Signals(fault)
-    }
-}
-
 /// What the process was started with, and the signals of the file that is named. The contract can't say which words and
 /// which bytes these were, but that they are some, and that no signals are given if these words name no file.
 pub fn asked_of<R: Env + Files + AllocGlobal>(rt: &R) -> Result<Asked, Unasked>
     ensures { IfOk result (λ asked. IsOfWords asked) }
 {
-    let options = check_options_of(rt)?;
-    let signals = signals_if(rt, &options.signals)?;
+    let options = check_options_of(rt).map_err(Unasked::Words)?;
+    let signals = signals_if(rt, &options.signals).map_err(Unasked::Signals)?;
     Ok(Asked {
         is_text: options.text,
         signals,
@@ -70,16 +53,6 @@ fn signals_if<R: Files + AllocGlobal>(
     match name {
         Some(name) => signals_of_file(rt, name),
         None => Ok(Declaration::new(rt.alloc())),
-    }
-}
-
-/// The exit status of the program where a file gives no signals: 3, or 4 if memory ran out.
-fn signals_code(fault: &SignalsFault) -> u8
-    ensures { result ≡ code_of_signals fault.now }
-{
-    match fault {
-        SignalsFault::Refused(_) | SignalsFault::Unread => word_code(WordFault::Refused),
-        SignalsFault::Memory => word_code(WordFault::NoMemory),
     }
 }
 

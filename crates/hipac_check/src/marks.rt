@@ -1,11 +1,11 @@
 //! Lines and columns of many offsets of one text.
 
-ghost use Rattle.std.specs.Prelude.{◌≡◌, ◌+◌, ◌*◌, ◌<◌, ◌≤◌, ◌^◌, ℕ, Some, IfOk, fold, length, slice_get};
+ghost use Rattle.std.specs.Prelude.{◌≡◌, ◌*◌, ℕ, Some, IfOk, slice_get};
 ghost use Rattle.hp_model.specs.NotationPlaces as P;
 ghost use Rattle.hp_text.specs.Places.{place_view};
 ghost use Rattle.hp_text.specs.declared.place.Place.{Place as TextPlace};
 
-use hp_text::{Place, place_at};
+use hp_text::{Place, place_at, place_from};
 use std::alloc::{AllocError, Global};
 
 /// How many bytes apart the places are that are known.
@@ -19,49 +19,6 @@ pub(crate) struct Marks<'a> {
     places: Vec<Place>,
     ghost offsets: { (k : ℕ) (p : TextPlace) → slice_get places.items k ≡ Some p →
         place_view p ≡ P.place_of text.now (1024 * k) },
-}
-
-/// The place after a byte of a text.
-fn after_byte(place: Place, byte: u8) -> Place
-    requires { (place.line + 1 < 2 ^ 64) × (place.column + 1 < 2 ^ 64) }
-    ensures { place_view result ≡ P.after_byte (place_view place) byte }
-{
-    let Place { line, column } = place;
-    if byte == b'\n' {
-        return Place {
-            line: line + 1,
-            column: 1,
-        };
-    }
-    if 0x80 <= byte && byte < 0xc0 {
-        return place;
-    }
-    Place {
-        line,
-        column: column + 1,
-    }
-}
-
-/// The place after some bytes of a text, from the place before them.
-fn place_after(before: Place, bytes: &[u8]) -> Place
-    requires { (before.line + length bytes.now < 2 ^ 64) × (before.column + length bytes.now < 2 ^ 64) }
-    ensures { place_view result ≡ fold P.after_byte (place_view before) bytes.now }
-{
-    let mut place = before;
-    for byte in bytes {
-        place = after_byte(place, *byte);
-    }
-    place
-}
-
-/// The place of an offset of a text, by that of an offset before it.
-fn place_from(text: &[u8], known: Place, from: usize, offset: usize) -> Place
-    requires order { from ≤ offset }
-    requires within { offset ≤ length text.now }
-    requires known { place_view known ≡ P.place_of text.now from }
-    ensures { place_view result ≡ P.place_of text.now offset }
-{
-    place_after(known, &text[from..offset])
 }
 
 impl<'a> Marks<'a> {

@@ -1,34 +1,13 @@
-//! Paths and reasons as text.
+//! Reasons as text.
 
 ghost use Rattle.std.specs.Prelude.{◌≡◌, Some};
-ghost use Rattle.hp_model.specs.Output.{path_text};
-ghost use Rattle.hp_rule.specs.Places.{path};
 ghost use Rattle.hp_analysis.specs.Kinded as kinded;
 ghost use Rattle.hp_analysis.specs.Checking.{kind_word, sort_word, wanted_word, reason_text};
 ghost use Rattle.hp_value.specs.Mapped as mapped;
 
 use hp_analysis::{Reason, Sort, Wanted};
-use hp_rule::PathStep;
 use hp_value::Kind;
 use std::fmt;
-
-/// A path from the root.
-#[derive(Clone, Copy)]
-pub(crate) struct Path<'a>(pub &'a [PathStep]);
-
-impl fmt::Display for Path<'_> {
-    ghost output = { λ p. Some (path_text (path p.0.now)) };
-
-    fn fmt<W: fmt::Write>(&self, f: &mut fmt::Formatter<W>) -> fmt::Result {
-        if self.0.is_empty() {
-            return write!(f, "/");
-        }
-        for step in self.0 {
-            write!(f, "/{step}")?;
-        }
-        Ok(())
-    }
-}
 
 /// The word of a kind.
 fn kind_word(kind: Kind) -> &'static str

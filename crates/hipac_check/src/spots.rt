@@ -9,9 +9,9 @@ ghost use Rattle.hp_text.specs.Places.{place_view};
 ghost use Rattle.hipac_check.specs.Spots.{spot_text, shown, shown_in};
 
 use crate::marks::Marks;
-use crate::shown::Path;
 use crate::walk::{body_offset, script_offset, transactions, unit_items};
 use hp_rule::{PathStep, Unit};
+use hp_script::Path;
 use hp_text::{Place, ReadError, ScriptNode, read_text};
 use std::alloc::{AllocError, Global};
 use std::fmt;

@@ -1,46 +1,20 @@
 //! From the paths of findings to the offsets of a text's values.
 
-ghost use Rattle.std.specs.Prelude.{◌≡◌, ◌+◌, ◌<◌, ◌^◌, ◌∷◌, [], IfOk, map, option_map, slice_get, codes};
+ghost use Rattle.std.specs.Prelude.{◌≡◌, ◌+◌, ◌<◌, ◌^◌, ◌∷◌, IfOk, map, codes};
 ghost use Rattle.hp_model.specs.NotationPlaces as P;
 ghost use Rattle.hp_model.specs.NotationTree as T;
 ghost use Rattle.hp_model.specs.Refusals.{to_member, to_item};
 ghost use Rattle.hp_rule.specs.Mapped.{unit};
-ghost use Rattle.hp_rule.specs.Places.{member, path, path_step};
+ghost use Rattle.hp_rule.specs.Places.{path};
 ghost use Rattle.hp_text.specs.Mapped.{node_view};
 ghost use Rattle.hp_text.specs.Scripts.{script_view};
 ghost use Rattle.hipac_check.specs.Spots.{has_word, is_transaction, transactions, transactions_from};
 ghost use Rattle.hipac_check.specs.Spots.{unit_item, after_unit, unit_items};
 
-use hp_rule::{Member, PathStep, Unit};
-use hp_text::{Node, ScriptNode, offset};
+use hp_notation::{member_name, step_of};
+use hp_rule::{PathStep, Unit};
+use hp_text::{Node, ScriptNode, item_at, member_of, offset, part_at};
 use std::alloc::{AllocError, Global};
-
-/// The node of this index.
-fn node_at(nodes: &[Node], index: usize) -> Option<&Node>
-    ensures { option_map (λ n. node_view n.now) result ≡ slice_get (map node_view nodes.entry.now) index }
-{
-    nodes.get(index)
-}
-
-/// The item of a list.
-fn item_at(node: &Node, index: usize) -> Option<&Node>
-    ensures { option_map (λ n. node_view n.now) result ≡ P.part_at (to_item index) (node_view node.entry.now) }
-{
-    match node {
-        Node::List(_, nodes) => node_at(nodes, index),
-        _ => None,
-    }
-}
-
-/// The part to which a step leads.
-fn part_at(node: &Node, step: PathStep) -> Option<&Node>
-    ensures { option_map (λ n. node_view n.now) result ≡ P.part_at (path_step step) (node_view node.entry.now) }
-{
-    match step {
-        PathStep::Item(index) => item_at(node, index),
-        PathStep::Member(_) => None,
-    }
-}
 
 /// The offset of the part at a path.
 fn offset_along(node: &Node, along: &[PathStep]) -> Option<usize>
@@ -48,24 +22,10 @@ fn offset_along(node: &Node, along: &[PathStep]) -> Option<usize>
 {
     match along {
         [] => Some(offset(node)),
-        [first, others @ ..] => match part_at(node, *first) {
+        [first, others @ ..] => match part_at(node, step_of(*first)) {
             Some(part) => offset_along(part, others),
             None => None,
         },
-    }
-}
-
-/// A member of a script.
-fn member_of(script: &ScriptNode, wanted: Member) -> Option<&Node>
-    ensures { option_map (λ n. node_view n.now) result
-        ≡ P.member_of (script_view script.entry.now) (member wanted) }
-{
-    match wanted {
-        Member::Version => Some(&script.version),
-        Member::Depth => script.depth.as_ref(),
-        Member::Classes => Some(&script.classes),
-        Member::Rules => Some(&script.rules),
-        Member::Items => Some(&script.items),
     }
 }
 
@@ -75,7 +35,7 @@ pub(crate) fn script_offset(script: &ScriptNode, along: &[PathStep]) -> Option<u
 {
     match along {
         [] => Some(script.at),
-        [PathStep::Member(first), others @ ..] => match member_of(script, *first) {
+        [PathStep::Member(first), others @ ..] => match member_of(script, member_name(*first)) {
             Some(node) => offset_along(node, others),
             None => None,
         },

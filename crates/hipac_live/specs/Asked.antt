@@ -4,12 +4,11 @@ use Rattle.hp_model.specs.Kinds.{Declared}
 use Rattle.hp_analysis.specs.Declarations.{declared}
 use Rattle.hp_analysis.specs.declared.kinds.declaration.Declaration.{Declaration}
 use Rattle.hp_signals.specs.Mapped.{AreOfBytes}
-use Rattle.hp_signals.specs.declared.fault.SignalsFault.{SignalsFault}
-use Rattle.hp_signals.specs.declared.fault.SignalsFault.TheVariants as s
+use Rattle.hp_signals.specs.Exits.{code_of_signals}
 use Rattle.hp_lines.specs.Live.{Manner}
 use Rattle.hp_words.specs.Words.{AreOfLiveWords, word_code_of}
 use Rattle.hp_words.specs.declared.words.Options.{Options}
-use Rattle.hp_words.specs.declared.words.WordFault.TheVariants.{Refused, NoMemory}
+use Rattle.hp_words.specs.declared.words.WordFault.TheVariants.{Refused}
 use Rattle.hipac_live.specs.declared.asked.Asked.{Asked}
 use Rattle.hipac_live.specs.declared.asked.Unasked.{Unasked}
 use Rattle.hipac_live.specs.declared.asked.Unasked.TheVariants.{Words, Script, Signals}
@@ -37,11 +36,6 @@ pub record IsOfWords (asked : Asked) : Type 0 where
   pub given : AreGiven signals checked asked.given
 
 -- the program's exit status where nothing is asked
-abbrev pub code_of_signals : SignalsFault → ℕ
-code_of_signals (s.Refused r) = word_code_of Refused
-code_of_signals s.Unread = word_code_of Refused
-code_of_signals s.Memory = word_code_of NoMemory
-
 abbrev pub code_unasked : Unasked → ℕ
 code_unasked (Words fault) = word_code_of fault
 code_unasked Script = word_code_of Refused

@@ -1,22 +1,16 @@
 //! What the command line asks for, with the bytes of the script's file, and the signals that another declares.
 
 ghost use Rattle.std.specs.Prelude.{◌≡◌, IfOk, None, is_some, option_map, string_bytes};
-ghost use Rattle.hipac_live.specs.Asked.{IsOfWords, AreGiven, code_unasked, code_of_signals};
-ghost use Rattle.hipac_live.specs.declared.asked.Unasked.TheVariants.{Words, Signals};
+ghost use Rattle.hipac_live.specs.Asked.{IsOfWords, AreGiven, code_unasked};
 
 use hp_analysis::Declaration;
-use hp_report::{ReadFault, Watched, read_up_to};
-use hp_signals::{SignalsFault, signals_of_file};
+use hp_report::{ReadFault, bytes_of_file};
+use hp_signals::{SignalsFault, signals_code, signals_of_file};
 use hp_words::{Options, WordFault, live_options_of, word_code};
 use std::alloc::Global;
 use std::env::Env;
-use std::fs;
-use std::io::ErrorKind;
 use std::rt::Files;
 use thiserror::Error;
-
-/// The most bytes of a script's file that are read: one more than a script may have is enough to refuse it.
-const MOST_READ: usize = 1_048_577;
 
 /// What a command line asks for.
 #[derive(Drop)]
@@ -44,31 +38,15 @@ pub enum Unasked {
     Signals(SignalsFault),
 }
 
-impl From<WordFault> for Unasked {
-    ghost from_gives = { λ fault unasked. unasked ≡ Words fault };
-
-    fn from(fault: WordFault) -> Unasked {
-        Unasked::Words(fault)
-    }
-}
-
-impl From<SignalsFault> for Unasked {
-    ghost from_gives = { λ fault unasked. unasked ≡ Signals fault };
-
-    fn from(fault: SignalsFault) -> Unasked {
-        Unasked::Signals(fault)
-    }
-}
-
 /// What the process was started with, the bytes of the script's file, and the signals of the other file. The contract
 /// can't say which words and which bytes these were, but that the options are those of some words, that the script has
 /// bytes exactly if these words name its file, and that the signals are given as `AreGiven` says.
 pub fn asked_of<R: Env + Files + AllocGlobal>(rt: &R) -> Result<Asked, Unasked>
     ensures { IfOk result (λ asked. IsOfWords asked) }
 {
-    let live = live_options_of(rt)?;
+    let live = live_options_of(rt).map_err(Unasked::Words)?;
     let script = bytes_if(rt, &live.script)?;
-    let given = signals_if(rt, &live.signals, live.checked)?;
+    let given = signals_if(rt, &live.signals, live.checked).map_err(Unasked::Signals)?;
     Ok(Asked {
         options: live.options,
         script,
@@ -107,7 +85,7 @@ fn bytes_if<R: Files + AllocGlobal>(
     rt: &R,
     name: &Option<String>,
 ) -> Result<Option<Vec<u8>>, Unasked>
-    ensures { IfOk result (λ bytes. is_some bytes ≡ is_some name.now) }
+    ensures { IfOk result (λ bytes. is_some bytes ≡ is_some (option_map string_bytes name.now)) }
 {
     match name {
         Some(name) => Ok(Some(bytes_of(rt, name)?)),
@@ -117,33 +95,10 @@ fn bytes_if<R: Files + AllocGlobal>(
 
 /// The bytes of a file, or the first 1,048,577 of them.
 fn bytes_of<R: Files + AllocGlobal>(rt: &R, name: &str) -> Result<Vec<u8>, Unasked> {
-    let file = match fs::open(rt, name) {
-        Ok(file) => file,
-        Err(error) => return Err(unread_by(error.kind() == ErrorKind::OutOfMemory)),
-    };
-    let mut reader = Watched::new(file);
-    match read_up_to(rt.alloc(), &mut reader, MOST_READ) {
+    match bytes_of_file(rt, name) {
         Ok(bytes) => Ok(bytes),
-        Err(fault) => Err(unread_by(fault == ReadFault::NoMemory)),
-    }
-}
-
-/// Why a file has no bytes.
-fn unread_by(no_memory: bool) -> Unasked {
-    if no_memory {
-        Unasked::Words(WordFault::NoMemory)
-    } else {
-        Unasked::Script
-    }
-}
-
-/// The exit status of the program where a file gives no signals: 3, or 4 if memory ran out.
-fn signals_code(fault: &SignalsFault) -> u8
-    ensures { result ≡ code_of_signals fault.now }
-{
-    match fault {
-        SignalsFault::Refused(_) | SignalsFault::Unread => word_code(WordFault::Refused),
-        SignalsFault::Memory => word_code(WordFault::NoMemory),
+        Err(ReadFault::Read) => Err(Unasked::Script),
+        Err(ReadFault::NoMemory) => Err(Unasked::Words(WordFault::NoMemory)),
     }
 }
 

@@ -16,10 +16,9 @@ ghost use Rattle.hp_analysis.specs.FoundKinds.{kind_finding, kind_findings};
 ghost use Rattle.hp_analysis.specs.Kinded.{finding, findings};
 ghost use Rattle.hp_lines.specs.Checked as definitions;
 
-use crate::shown::{Path, Steps};
 use hp_analysis::{Declaration, Finding, Graph, KindFinding, kind_findings, unit_findings};
 use hp_rule::{Library, Unit};
-use hp_script::{Request, Script};
+use hp_script::{Path, Request, Script, Steps};
 use std::alloc::{AllocError, Global};
 use std::fmt::Write;
 

@@ -7,6 +7,5 @@
 
 mod faults;
 mod reading;
-mod shown;
 
 pub use reading::{Reading, declaration_for};

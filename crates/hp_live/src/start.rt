@@ -1,6 +1,6 @@
 //! How a run begins.
 
-ghost use Rattle.std.specs.Prelude.{◌≡◌, ◌≢◌, ◌↔◌, [], IfOk, Some, None, true, false};
+ghost use Rattle.std.specs.Prelude.{◌≡◌, ◌≢◌, ◌↔◌, IfOk, Some, true, false};
 ghost use Rattle.std.specs.Io.KnownBytes.{Consumes};
 ghost use Rattle.hp_analysis.specs.Declarations.{declared};
 ghost use Rattle.hp_checked.specs.Readings.{KeepsGiven};
@@ -9,7 +9,7 @@ ghost use Rattle.hp_live.specs.Kept.{declared_of};
 use hp_analysis::Declaration;
 use hp_checked::declaration_for;
 use hp_report::{Fault, Source};
-use std::alloc::{AllocError, Global};
+use std::alloc::Global;
 
 /// The bytes that are read ahead at most, before the last piece. A line of so many bytes is no script.
 const MOST_AHEAD: usize = 1_048_577;
@@ -72,53 +72,39 @@ impl Start {
         ensures read { result ≡ Err Fault.Read ↔ (R.has_failed reader.new ≡ true) }
         ensures write { result ≢ Err Fault.Write }
     {
-        match script {
-            Some(file) => Ok(Start::by_file(alloc, file, given, is_text)?),
-            None => Start::by_line(alloc, given, is_text, reader),
-        }
-    }
-
-    /// What a checked run begins with, if its script is a file's.
-    fn by_file(
-        alloc: Global,
-        file: Vec<u8>,
-        given: Declaration,
-        is_text: bool,
-    ) -> Result<Start, AllocError>
-        ensures script { IfOk result (λ start. start.script ≡ Some file) }
-        ensures checks { IfOk result (λ start. KeepsGiven (Some (declared given)) (declared_of start.checks)) }
-        ensures ahead { IfOk result (λ start. start.ahead.items ≡ []) }
-    {
-        let declaration = declaration_for(alloc, &file, is_text, given)?;
+        let ahead = read_ahead(alloc, &script, reader)?;
+        let declaration = declaration_for(alloc, script_bytes(&script, &ahead), is_text, given)?;
         Ok(Start {
-            script: Some(file),
-            checks: Some(declaration),
-            ahead: Vec::new(alloc),
-        })
-    }
-
-    /// What a checked run begins with, if its script is the first line.
-    fn by_line<R: Source>(
-        alloc: Global,
-        given: Declaration,
-        is_text: bool,
-        reader: &mut R,
-    ) -> Result<Start, Fault>
-        requires { R.has_failed reader.old ≡ false }
-        ensures script { IfOk result (λ start. start.script ≡ None) }
-        ensures checks { IfOk result (λ start. KeepsGiven (Some (declared given)) (declared_of start.checks)) }
-        ensures ahead { IfOk result (λ start.
-            Consumes (R.remaining reader.old) (R.remaining reader.new) start.ahead.items) }
-        ensures read { result ≡ Err Fault.Read ↔ (R.has_failed reader.new ≡ true) }
-        ensures write { result ≢ Err Fault.Write }
-    {
-        let ahead = read_line(alloc, reader)?;
-        let declaration = declaration_for(alloc, first_line(&ahead), is_text, given)?;
-        Ok(Start {
-            script: None,
+            script,
             checks: Some(declaration),
             ahead,
         })
+    }
+}
+
+/// The bytes of the script: those of its file, or else of the first line of what was read ahead.
+fn script_bytes<'a>(file: &'a Option<Vec<u8>>, ahead: &'a [u8]) -> &'a [u8] {
+    match file {
+        Some(file) => file.as_slice(),
+        None => first_line(ahead),
+    }
+}
+
+/// Reads ahead where the script is the first line, and nothing where it is a file's.
+fn read_ahead<R: Source>(
+    alloc: Global,
+    file: &Option<Vec<u8>>,
+    reader: &mut R,
+) -> Result<Vec<u8>, Fault>
+    requires { R.has_failed reader.old ≡ false }
+    ensures ahead { IfOk result (λ bytes.
+        Consumes (R.remaining reader.old) (R.remaining reader.new) bytes.items) }
+    ensures read { result ≡ Err Fault.Read ↔ (R.has_failed reader.new ≡ true) }
+    ensures write { result ≢ Err Fault.Write }
+{
+    match file {
+        Some(_) => Ok(Vec::new(alloc)),
+        None => read_line(alloc, reader),
     }
 }
 

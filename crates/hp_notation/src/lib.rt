@@ -11,6 +11,7 @@ mod refusal;
 mod shown;
 
 pub use decoding::{decode_text, decode_text_request};
+pub use places::{member_name, step_of};
 pub use reading::{Unread, read_request, read_script};
 pub use refusal::{TextError, TextRefusal};
 pub use shown::text_refusal_line;

@@ -29,7 +29,7 @@ fn path_in(refusal: &Refusal) -> Option<&[PathStep]>
 }
 
 /// The name of a member of a script.
-fn member_name(member: Member) -> &'static str
+pub fn member_name(member: Member) -> &'static str
     ensures { result.now ≡ member_view member }
 {
     match member {
@@ -42,7 +42,7 @@ fn member_name(member: Member) -> &'static str
 }
 
 /// A step of a path, as a step into a text's values.
-fn step_of(step: PathStep) -> Step<'static>
+pub fn step_of(step: PathStep) -> Step<'static>
     ensures { step_view result ≡ path_step step }
 {
     match step {

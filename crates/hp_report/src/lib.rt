@@ -6,6 +6,7 @@
 mod device;
 mod ending;
 mod fault;
+mod file;
 mod input;
 mod names;
 mod output;
@@ -19,6 +20,7 @@ mod watched;
 pub use device::{Sink, Source};
 pub use ending::{final_objects, final_state, final_statuses, replay_units};
 pub use fault::Fault;
+pub use file::bytes_of_file;
 pub use input::{ReadFault, read_up_to};
 pub use output::{WriteFault, write_text};
 pub use parts::{state_text, units_text};

@@ -10,7 +10,9 @@ use serde_json::Value;
 use std::alloc::Global;
 
 /// The value of a JSON text in UTF-8.
-pub(crate) fn json_at(alloc: Global, bytes: &[u8]) -> Result<Value, DecodeError>
+///
+/// `Refused` has `S1`: the bytes are no such text. `Memory` means that memory ran out.
+pub fn json_at(alloc: Global, bytes: &[u8]) -> Result<Value, DecodeError>
     ensures { Gives view result (json_at bytes.now) }
 {
     match Value::from_slice(alloc, bytes) {

@@ -42,9 +42,13 @@ mod version;
 
 pub use decoding::{decode, decode_value};
 pub use hp_rule::{Limit, Member, PathStep};
-pub use refusal::{DecodeError, Refusal};
+pub use json::json_at;
+pub use list::{list_at, short_list_at};
+pub use name::name_at;
+pub use refusal::{DecodeError, Refusal, bad_name, shaped};
 pub use request::{Excerpt, Request, decode_request, decode_request_value};
 pub use schedule::Schedule;
 pub use script::Script;
-pub use shown::refusal_text;
+pub use shape::pair_of;
+pub use shown::{Path, Steps, refusal_text};
 pub use version::Version;

@@ -13,8 +13,8 @@ use hp_rule::{Limit, Place};
 use serde_json::Value;
 use std::alloc::Global;
 
-/// The items of the list at a place.
-pub(crate) fn list_at<'a>(
+/// The items of the list at a place, or the refusal of a value that is no list.
+pub fn list_at<'a>(
     alloc: Global,
     place: &Place<'_>,
     value: &'a Value,
@@ -24,9 +24,9 @@ pub(crate) fn list_at<'a>(
     shaped(alloc, place, list_of(value))
 }
 
-/// The items of the list at a place, of which there may be at most `most`.
+/// The items of the list at a place, of which there may be at most `most`. A longer list exceeds the limit `exceeded`.
 #[tactic(auto, unfolding(hp_model::specs::Parts::short_list_at))]
-pub(crate) fn short_list_at<'a>(
+pub fn short_list_at<'a>(
     alloc: Global,
     place: &Place<'_>,
     most: usize,

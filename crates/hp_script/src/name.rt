@@ -18,8 +18,8 @@ fn name_of(value: &Value) -> Option<&str>
     if is_name(text) { Some(text) } else { None }
 }
 
-/// The name at a place.
-pub(crate) fn name_at<'a>(
+/// The name at a place, or the refusal of a value that is no name.
+pub fn name_at<'a>(
     alloc: Global,
     place: &Place<'_>,
     value: &'a Value,

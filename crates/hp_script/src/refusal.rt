@@ -80,7 +80,7 @@ pub(crate) fn bad_number(alloc: Global, place: &Place<'_>) -> DecodeError
 }
 
 /// The refusal of a name that is unknown or taken, or of a list that lacks one.
-pub(crate) fn bad_name(alloc: Global, place: &Place<'_>) -> DecodeError
+pub fn bad_name(alloc: Global, place: &Place<'_>) -> DecodeError
     ensures { IsRefusal result (bad_name (steps place.now)) }
 {
     match place.path(alloc) {
@@ -90,11 +90,7 @@ pub(crate) fn bad_name(alloc: Global, place: &Place<'_>) -> DecodeError
 }
 
 /// What was found at a place, or the refusal of a value that doesn't have the required form.
-pub(crate) fn shaped<T>(
-    alloc: Global,
-    place: &Place<'_>,
-    found: Option<T>,
-) -> Result<T, DecodeError>
+pub fn shaped<T>(alloc: Global, place: &Place<'_>, found: Option<T>) -> Result<T, DecodeError>
     ensures { Gives (λ x. x) result (shaped (steps place.now) found) }
 {
     match found {

@@ -34,8 +34,8 @@ pub(crate) fn form_of(value: &Value) -> Option<Form<'_>>
     Some(Form { word, parts })
 }
 
-/// The items of a list of two.
-pub(crate) fn pair_of(value: &Value) -> Option<(&Value, &Value)>
+/// The items of a list of two; nothing if the value is no such list.
+pub fn pair_of(value: &Value) -> Option<(&Value, &Value)>
     ensures { option_map (λ p. (view p.0.now, view p.1.now)) result ≡ pair_of (view value.now) }
 {
     match list_of(value)? {

@@ -1,7 +1,8 @@
 //! Refusals as text.
 
-ghost use Rattle.std.specs.Prelude.{◌≡◌, Some, IfOk, string_bytes};
-ghost use Rattle.hp_model.specs.Output.{path_text, refusal_words, refusal_text as line_of};
+ghost use Rattle.std.specs.Prelude.{◌≡◌, ◌∷◌, Some, IfOk, string_bytes};
+ghost use Rattle.std.specs.List.{flat_map};
+ghost use Rattle.hp_model.specs.Output.{path_text, step_text, refusal_words, refusal_text as line_of};
 ghost use Rattle.hp_model.specs.Report.{words};
 ghost use Rattle.hp_rule.specs.Places.{path};
 ghost use Rattle.hp_script.specs.Mapped.{refusal as mapped};
@@ -11,9 +12,9 @@ use hp_rule::PathStep;
 use std::alloc::{AllocError, Global};
 use std::fmt;
 
-/// A path from the root.
+/// A path from the root, which is shown as `/items/0/1`, and as `/` if it has no steps.
 #[derive(Clone, Copy)]
-struct Path<'a>(&'a [PathStep]);
+pub struct Path<'a>(pub &'a [PathStep]);
 
 impl fmt::Display for Path<'_> {
     ghost output = { λ p. Some (path_text (path p.0.now)) };
@@ -22,6 +23,19 @@ impl fmt::Display for Path<'_> {
         if self.0.is_empty() {
             return write!(f, "/");
         }
+        let steps = Steps(self.0);
+        write!(f, "{steps}")
+    }
+}
+
+/// The rest of a path, after its first steps. Each step is shown with a slash before it.
+#[derive(Clone, Copy)]
+pub struct Steps<'a>(pub &'a [PathStep]);
+
+impl fmt::Display for Steps<'_> {
+    ghost output = { λ s. Some (flat_map (λ step. 47 ∷ step_text step) (path s.0.now)) };
+
+    fn fmt<W: fmt::Write>(&self, f: &mut fmt::Formatter<W>) -> fmt::Result {
         for step in self.0 {
             write!(f, "/{step}")?;
         }

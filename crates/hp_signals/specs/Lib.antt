@@ -1,2 +1,3 @@
 pub mod Signals
 pub mod Mapped
+pub mod Exits

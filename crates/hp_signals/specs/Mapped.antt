@@ -38,9 +38,3 @@ AreOfBytes (Ok declaration) = (bytes : List ℕ) × Declares (Ok declaration) (s
 AreOfBytes (Err (Refused r)) = (bytes : List ℕ) × (signatures_of bytes ≡ Err (refusal r))
 AreOfBytes (Err Unread) = ⊤
 AreOfBytes (Err Memory) = ⊤
-
--- the file has no bytes, or there was no memory
-abbrev pub IsUnread : SignalsFault → Type 0
-IsUnread (Refused r) = ⊥
-IsUnread Unread = ⊤
-IsUnread Memory = ⊤

@@ -5,9 +5,8 @@
 
 mod fault;
 mod file;
-mod parts;
 mod reading;
 
-pub use fault::SignalsFault;
+pub use fault::{SignalsFault, signals_code};
 pub use file::signals_of_file;
 pub use reading::read_signals;

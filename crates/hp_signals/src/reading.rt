@@ -10,10 +10,11 @@ ghost use Rattle.hp_signals.specs.Signals.{sort_of_word, sort_at, sorts_at, new_
 ghost use Rattle.hp_signals.specs.Signals.{signatures_at, signatures_of};
 ghost use Rattle.hp_signals.specs.Mapped.{signature, is_in, Declares};
 
-use crate::parts::{bad_name, json_at, list_at, name_at, pair_of, shaped, short_list_at};
 use hp_analysis::{Declaration, Sort};
 use hp_rule::{Limit, Place};
-use hp_script::{DecodeError, Refusal};
+use hp_script::{
+    DecodeError, Refusal, bad_name, json_at, list_at, name_at, pair_of, shaped, short_list_at,
+};
 use hp_value::Kind;
 use serde_json::Value;
 use std::alloc::Global;

@@ -5,3 +5,4 @@ pub mod Listing
 pub mod Nodes
 pub mod Numbers
 pub mod Words
+pub mod Spans

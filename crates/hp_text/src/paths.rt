@@ -27,8 +27,8 @@ fn node_at(nodes: &[Node], index: usize) -> Option<&Node>
     nodes.get(index)
 }
 
-/// The item of a list.
-fn item_at(node: &Node, index: usize) -> Option<&Node>
+/// The item of a list, by its index from 0. There is none where the node is no list, or a shorter one.
+pub fn item_at(node: &Node, index: usize) -> Option<&Node>
     ensures { option_map (λ n. node_view n.now) result ≡ P.part_at (to_item index) (node_view node.entry.now) }
 {
     match node {
@@ -37,8 +37,8 @@ fn item_at(node: &Node, index: usize) -> Option<&Node>
     }
 }
 
-/// The part to which a step leads.
-fn part_at<'a>(node: &'a Node, step: Step<'_>) -> Option<&'a Node>
+/// The part to which a step leads, if there is one.
+pub fn part_at<'a>(node: &'a Node, step: Step<'_>) -> Option<&'a Node>
     ensures { option_map (λ n. node_view n.now) result ≡ P.part_at (step_view step.entry) (node_view node.entry.now) }
 {
     match step {
@@ -60,8 +60,8 @@ fn offset_along(node: &Node, steps: &[Step<'_>]) -> Option<usize>
     }
 }
 
-/// The member of a script that has this name.
-fn member_of<'a>(script: &'a ScriptNode, name: &str) -> Option<&'a Node>
+/// The member of a script that has this name, if there is one.
+pub fn member_of<'a>(script: &'a ScriptNode, name: &str) -> Option<&'a Node>
     ensures { option_map (λ n. node_view n.now) result ≡ P.member_of (script_view script.entry.now) name.now }
 {
     match name {

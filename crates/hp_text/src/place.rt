@@ -1,6 +1,6 @@
 //! Places in a text.
 
-ghost use Rattle.std.specs.Prelude.{◌≡◌, ◌+◌, ◌<◌, ◌≤◌, ◌^◌, Some, fold};
+ghost use Rattle.std.specs.Prelude.{◌≡◌, ◌+◌, ◌<◌, ◌≤◌, ◌^◌, Some, fold, length};
 ghost use Rattle.hp_model.specs.NotationPlaces as P;
 ghost use Rattle.hp_model.specs.Output.{place_text};
 ghost use Rattle.hp_text.specs.Places.{place_view};
@@ -26,7 +26,7 @@ impl fmt::Display for Place {
 
 /// The place after a byte of a text.
 fn after_byte(place: Place, byte: u8) -> Place
-    requires { (place.line < 2 ^ 63) × (place.column < 2 ^ 63) }
+    requires { (place.line + 1 < 2 ^ 64) × (place.column + 1 < 2 ^ 64) }
     ensures value { place_view result ≡ P.after_byte (place_view place) byte }
     ensures line { result.line ≤ place.line + 1 }
     ensures column { result.column ≤ place.column + 1 }
@@ -47,15 +47,27 @@ fn after_byte(place: Place, byte: u8) -> Place
     }
 }
 
-/// The place of the character that begins after these bytes.
-fn place_after(before: &[u8]) -> Place
-    ensures { place_view result ≡ fold P.after_byte (record { line = 1; column = 1 }) before.now }
+/// The place after some bytes of a text, from the place before them.
+fn place_after(before: Place, bytes: &[u8]) -> Place
+    requires { (before.line + length bytes.now < 2 ^ 64) × (before.column + length bytes.now < 2 ^ 64) }
+    ensures { place_view result ≡ fold P.after_byte (place_view before) bytes.now }
 {
-    let mut place = Place { line: 1, column: 1 };
-    for byte in before {
+    let mut place = before;
+    for byte in bytes {
         place = after_byte(place, *byte);
     }
     place
+}
+
+/// The place of the character that begins at an offset of a text, by the place of an offset before it. It takes time in
+/// the number of bytes between them.
+pub fn place_from(text: &[u8], known: Place, from: usize, offset: usize) -> Place
+    requires order { from ≤ offset }
+    requires within { offset ≤ length text.now }
+    requires known { place_view known ≡ P.place_of text.now from }
+    ensures { place_view result ≡ P.place_of text.now offset }
+{
+    place_after(known, &text[from..offset])
 }
 
 /// The place of the character that begins at an offset of a text. An offset beyond the end is the end.
@@ -63,8 +75,9 @@ fn place_after(before: &[u8]) -> Place
 pub fn place_at(text: &[u8], offset: usize) -> Place
     ensures { place_view result ≡ P.place_of text.now offset }
 {
+    let start = Place { line: 1, column: 1 };
     if offset < text.len() {
-        return place_after(&text[..offset]);
+        return place_after(start, &text[..offset]);
     }
-    place_after(text)
+    place_after(start, text)
 }

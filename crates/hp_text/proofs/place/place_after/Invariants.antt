@@ -6,7 +6,7 @@ use Rattle.hp_text.proofs.place.place_after.Given as goal
 
 abbrev pub invariant-loop-byte : goal.invariant-loop-byte
 invariant-loop-byte l = record {
-  place : place_view l.place ≡ fold P.after_byte (record { line = 1; column = 1 }) (take l.byte-index l.before);
-  line : l.place.line ≤ l.byte-index + 1;
-  column : l.place.column ≤ l.byte-index + 1;
+  place : place_view l.place ≡ fold P.after_byte (place_view l.fn.before) (take l.byte-index l.bytes);
+  line : l.place.line ≤ l.fn.before.line + l.byte-index;
+  column : l.place.column ≤ l.fn.before.column + l.byte-index;
 }

@@ -3,7 +3,8 @@ use Rattle.std.proofs.lemmas.List.{length_push}
 use Rattle.std.specs.Prelude.{slice_get}
 use Rattle.hp_model.specs.NotationPlaces.{place_of}
 use Rattle.hp_text.specs.Places.{place_view}
-use Rattle.hipac_check.proofs.Spans.{place_first, get_pushed}
+use Rattle.hp_text.proofs.Spans.{place_first}
+use Rattle.hipac_check.proofs.Pushed.{get_pushed}
 use Rattle.hipac_check.proofs.marks.Marks.of.Goals as goal
 
 pub loop-from-init : goal.loop-from-init

@@ -2,8 +2,8 @@ use Rattle.std.proofs.Common.{arith, ap, ◌∙◌, ◌-◌, ◌≤◌, length, 
 use Rattle.std.proofs.lemmas.List.{length-take}
 use Rattle.hp_text.specs.Places.{place_view}
 use Rattle.hp_model.specs.NotationPlaces.{Place}
-use Rattle.hipac_check.proofs.Spans.{place_near, from_known}
-use Rattle.hipac_check.proofs.marks.place_from.Goals as goal
+use Rattle.hp_text.proofs.Spans.{place_near, from_known}
+use Rattle.hp_text.proofs.place.place_from.Goals as goal
 
 pub place_after-requires : goal.place_after-requires
 place_after-requires c =

@@ -3,7 +3,7 @@ use Rattle.std.specs.Fmt.{HasWritten, IsPlainFormatter}
 use Rattle.std.specs.List.{flat_map}
 use Rattle.hp_model.specs.Output.{step_text}
 use Rattle.hp_rule.specs.Places.{path}
-use Rattle.hp_checked.proofs.shown.StepsDisplay.fmt.Given as goal
+use Rattle.hp_script.proofs.shown.StepsDisplay.fmt.Given as goal
 
 abbrev pub invariant-loop-step : goal.invariant-loop-step
 invariant-loop-step g l =

@@ -1,9 +1,9 @@
 -- Places from one offset of a text to another.
-use Rattle.std.proofs.Common.{arith, ◌≡◌, refl, sym, ap, ◌∙◌, ℕ, zero, suc, ◌+◌, ◌-◌, ◌≤◌, ◌⊎◌, inl, inr, List, [], ◌∷◌, ◌++◌, length, take, Bool, true, false, Some}
+use Rattle.std.proofs.Common.{arith, ◌≡◌, refl, sym, ap, ◌∙◌, ℕ, suc, ◌+◌, ◌-◌, ◌≤◌, List, [], ◌∷◌, length, take, Bool, true, false}
 use Rattle.std.proofs.Math.Seq.{take-add}
 use Rattle.std.proofs.lemmas.List.{length-take}
 use Rattle.std.proofs.lemmas.List.Sums.{fold-append}
-use Rattle.std.specs.Prelude.{◌==◌, if◌then◌else◌, slice_get, slice_range}
+use Rattle.std.specs.Prelude.{◌==◌, if◌then◌else◌, slice_range}
 use Rattle.std.specs.List.{fold}
 use Rattle.hp_model.specs.NotationPlaces.{Place, continues_character, after_byte, place_of}
 
@@ -50,11 +50,3 @@ from_known bytes k n p le is =
 pub place_first : (bytes : List ℕ) → start ≡ place_of bytes 0
 unfolding place_of
 place_first bytes = refl
-
--- ---- a list with one more element
-
-pub get_pushed : {A : Type 0} (xs : List A) (x : A) (k : ℕ) (y : A) → slice_get (xs ++ x ∷ []) k ≡ Some y → (slice_get xs k ≡ Some y) ⊎ ((k ≡ length xs) × (x ≡ y))
-get_pushed [] x zero y h = inr (refl, cc)
-get_pushed [] x (suc k) y h = cc
-get_pushed (z ∷ xs) x zero y h = inl h
-get_pushed (z ∷ xs) x (suc k) y h = elim (get_pushed xs x k y h) [ inl old ↦ inl old | inr new ↦ inr (ap suc new.0, new.1) ]
