@@ -202,7 +202,7 @@ def counts_all(tree):
 
 
 def proves_all(tree):
-    """The gate also counts what `rt ci`, the edits and the checks of the proved programs count. `rt ci` gets no edit."""
+    """The gate also counts what `rt ci`, the edits and the checks of the proved programs count. rt ci gets no edit."""
     status, lines, last = tree.run(".ci/run")
     expect((status, last), (0, f"{PROVED} passed, 0 failed"), "\n".join(lines[-30:]))
     calls = tree.calls()

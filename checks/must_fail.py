@@ -10,9 +10,10 @@ the prover complains of the function that it changes. What that doesn't show to 
 check of the modules that it changes, and at last in one of the whole crate. An edit of a definition is tried alone, in
 a check of the whole crate.
 
-An edit isn't refused if the prover complains only of a proof that names what the edit took away, or of a search that
-ended at a limit: then no contract was shown to fail. As many crates are tried side by side as there are processors.
-The last line is 'N passed, M failed'.
+An edit isn't counted as refused if the prover complains only of a proof that names what the edit took away, or of a
+search that ended at a limit, or if it can't read the edit: then no contract was shown to fail. As many crates are tried
+side by side as there are processors. The last line is 'N passed, M failed': an edit has failed if the crate is still
+proved with it.
 """
 
 import concurrent.futures
@@ -25,7 +26,7 @@ import time
 
 from edited_functions import body_of, module_of, texts_with, together, unique_names
 from harness import repo
-from more_edits import BAD, REFUSED, came_to, edited, refused_of, text_of, with_their_ends
+from more_edits import BAD, PROVED, REFUSED, came_to, edited, refused_of, text_of, with_their_ends
 
 PROCESSORS = len(os.sched_getaffinity(0))
 
@@ -127,13 +128,13 @@ class Tries:
 
 
 def tell(tries):
-    """Prints what the edits of a crate came to. Gives how many were refused, and how many weren't."""
+    """Prints what the edits of a crate came to. Gives how many were refused, and with how many it is still proved."""
     for path, (kind, shown) in sorted(tries.found.items()):
-        head = "" if kind == REFUSED else "FAILED "
+        head = "FAILED " if kind == PROVED else "" if kind == REFUSED else "not counted: "
         print(f"{head}{tries.crate}/{os.path.basename(path)[: -len('.edit')]}: {kind}: {shown.strip()[:200]}")
     kinds = [kind for kind, _ in tries.found.values()]
     print(f"{tries.crate}: {kinds.count(REFUSED)} of {len(kinds)} refused, {tries.seconds:.0f} seconds", flush=True)
-    return kinds.count(REFUSED), len(kinds) - kinds.count(REFUSED)
+    return kinds.count(REFUSED), kinds.count(PROVED)
 
 
 def main(words):
