@@ -6,10 +6,12 @@ use Rattle.std.specs.Prelude.{IsSome, IfSome, IfNone}
 use denote.Ref.{Bor}
 use Rattle.std.specs.Option.{option_or}
 use Rattle.hp_model.specs.Cells.{Cell, Cells, Changes, no_changes, over}
-use Rattle.hp_model.proofs.BridgesCells.{stacked, over-over}
+use Rattle.hp_model.proofs.BridgesCells.{over-over}
 use Rattle.hp_board.specs.Passes.{Fact, fact, known_at, Agrees, IsPassOf, Learns}
 use Rattle.hp_board.proofs.Passes.{length_of}
-use Rattle.hp_fire.specs.Starts.{change_of, posted_below, AreMerged}
+use Rattle.hp_fire.specs.declared.speculate.wave.Wave.{Wave}
+use Rattle.hp_fire.specs.declared.speculate.pending.Tried.{Tried}
+use Rattle.hp_fire.specs.Starts.{change_of, posted_below, AreMerged, Remembers, OnlyLearns, Posts, IsTriedBy, IsTriedFrom}
 
 or_assoc : {X : Type 0} (a b c : Option X) → option_or (option_or a b) c ≡ option_or a (option_or b c)
 or_assoc None b c = refl
@@ -41,6 +43,40 @@ module _ {T : Type 0} where
           let same : j ≡ i = omega (arith, more, most) in
           ap (known_at after) same ∙ known_same facts i x after learns inside
           ∙ agreed (known_at facts i) x (subst (λ n. IsSome (known_at facts n)) same some) learns.1 ∙ ap (known_at facts) (sym same)
+
+  -- ---- what a pass remembers
+
+  pub remembers_same : (facts : List (Fact T)) → Remembers facts facts
+  remembers_same facts = λ j was. refl
+
+  pub remembers_then : (a b c : List (Fact T)) → Remembers a b → Remembers b c → Remembers a c
+  remembers_then a b c one two = λ j was. two j (subst IsSome (sym (one j was)) was) ∙ one j was
+
+  -- it learns what the task of number i has posted
+  pub remembers_learns : (names : List ℕ) (facts : List (Fact T)) (i : ℕ) (x : T) (after : List (Fact T)) → IsPassOf names facts → i < length names → Learns facts i x after → Remembers facts after
+  remembers_learns names facts i x after is inside learns = λ j was. known_keeps facts i x after j learns (length_of names facts i is inside) was
+
+  -- it looks at the task of number i
+  pub remembers_looked : (names : List ℕ) (facts after : List (Fact T)) (i : ℕ) (found : Option (Bor T)) → IsPassOf names facts → i < length names
+      → IfNone found ((known_at facts i ≡ None) × (after ≡ facts)) → IfSome found (λ r. Learns facts i r.now after) → Remembers facts after
+  remembers_looked names facts after i None is inside none some = λ j was. ap (λ l. known_at l j) none.1
+  remembers_looked names facts after i (Some r) is inside none some = remembers_learns names facts i r.now after is inside some
+
+  pub only_same : (p : Option (List (Fact T))) → OnlyLearns p p
+  only_same None = tt
+  only_same (Some facts) = (facts, refl, remembers_same facts)
+
+  none_some : (facts : List (Fact T)) → None ≡ Some facts → ⊥
+  none_some facts e = cc
+
+  same_some : (facts others : List (Fact T)) → Some facts ≡ Some others → facts ≡ others
+  same_some facts others e = cc
+
+  pub only_then : (p q r : Option (List (Fact T))) → OnlyLearns p q → OnlyLearns q r → OnlyLearns p r
+  only_then p q None one two = tt
+  only_then p None (Some c) one two = absurd (none_some two.0 two.1)
+  only_then p (Some b) (Some c) one two =
+      (one.0, one.1, remembers_then one.0 b c one.2 (subst (λ (facts : List (Fact T)). Remembers facts c) (sym (same_some b two.0 two.1)) two.2))
 
   module _ (changes_of : T → Changes) where
     below_same : (facts after : List (Fact T)) (n : ℕ) (cell : Cell) → ((j : ℕ) → j < n → known_at after j ≡ known_at facts j) → posted_below changes_of after n cell ≡ posted_below changes_of facts n cell
@@ -192,3 +228,20 @@ module _ {T : Type 0} where
 -- a layer that changes nothing
 pub over_none : (base : Cells) (changes : Changes) → changes ≡ no_changes → over base changes ≡ base
 over_none base changes none = ap (over base) none ∙ (λ i cell. base cell)
+
+-- ---- tried tasks
+
+-- the pass has only learned before
+pub tried_since : (w : Wave) (first before after : Option Posts) (t : Tried) → OnlyLearns first before → IsTriedBy w before after t → IsTriedBy w first after t
+tried_since w first before after t since tried = record {
+  number = tried.number;
+  index = tried.index;
+  posts = tried.posts;
+  then_knew = only_then first before (Some tried.posts) since tried.then_knew;
+  still_knows = tried.still_knows;
+  has_pass = tried.has_pass;
+  held = tried.held;
+}
+
+pub tried_from : (w : Wave) (before after : Option Posts) (t : Tried) → IsTriedBy w before after t → IsTriedFrom w.snapshot w.done t
+tried_from w before after t tried = record { number = tried.number; index = tried.index; posts = tried.posts; held = tried.held }

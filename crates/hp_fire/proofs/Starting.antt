@@ -134,24 +134,42 @@ single_measure lib depth tasks t ready is =
     omega (arith, falls)
 
 -- the tasks of a signal have less left to run than the signal
-pub group_measure : (lib : RustLibrary) (depth : ℕ) (tasks : List RustTask) → AreReady (library lib) depth (map task tasks) → (tasks ≡ [] → ⊥)
-    → 16 * left lib (levels lib (depth + 1)) (deepest lib) + 13 < 16 * left lib (levels lib depth) 0 + 1
-group_measure lib depth [] ready some = absurd (some refl)
-group_measure lib depth (t ∷ ts) ready some =
+pub group_measure : (lib : RustLibrary) (depth nested : ℕ) (tasks : List RustTask) → nested ≡ levels lib (depth + 1) → AreReady (library lib) depth (map task tasks) → (tasks ≡ [] → ⊥)
+    → 16 * left lib nested (deepest lib) + 13 < 16 * left lib (levels lib depth) 0 + 1
+group_measure lib depth nested [] is ready some = absurd (some refl)
+group_measure lib depth nested (t ∷ ts) is ready some =
     let low : depth < lib.depth_limit = ready.within (task t) (map task ts) refl in
-    let less : suc (levels lib (depth + 1)) ≤ levels lib depth = omega (arith, low) in
-    group_falls (levels lib depth) (levels lib (depth + 1)) (deepest lib) less
+    let less : suc nested ≤ levels lib depth = omega (arith, is, low) in
+    group_falls (levels lib depth) nested (deepest lib) less
 
--- the immediate ones are as deep as all of them
-all_at : (depth : ℕ) (ts : List RustTask) → AreAt (suc depth) (map task ts) → All (λ (t : RustTask). t.depth ≡ depth + 1) ts
-all_at depth [] at = All-nil (λ (t : RustTask). t.depth ≡ depth + 1)
-all_at depth (t ∷ ts) at =
-    let here : t.depth ≡ depth + 1 = omega (arith, at.0) in
-    All-cons (λ (u : RustTask). u.depth ≡ depth + 1) t ts here (all_at depth ts at.1)
+-- where fewer firings may nest, less is left to run
+less_left : (lib : RustLibrary) (few nested : ℕ) → few ≤ nested → left lib few (deepest lib) ≤ left lib nested (deepest lib)
+less_left lib few nested less =
+    let more : few * (deepest lib + 2) ≤ nested * (deepest lib + 2) = mul-le-mul_right (deepest lib + 2) less in
+    omega (arith, more)
 
-pub tasks_at : {l : Library} (depth : ℕ) (tasks now : List RustTask) → AreReady l depth (map task tasks) → map task now ≡ filter (λ (u : Task). is_immediate u.place) (map task tasks)
-    → All (λ (t : RustTask). t.depth ≡ depth + 1) now
-tasks_at depth tasks now ready is = all_at depth now (subst (AreAt (suc depth)) (sym is) (at_filter (suc depth) (λ (u : Task). is_immediate u.place) (map task tasks) ready.at))
+-- as many firings may nest in a task as below the transaction that starts it
+all_nest : (lib : RustLibrary) (depth nested : ℕ) → nested ≡ levels lib (depth + 1) → (ts : List RustTask) → AreAt (suc depth) (map task ts)
+    → All (λ (t : RustTask). left lib (levels lib t.depth) (deepest lib) ≤ left lib nested (deepest lib)) ts
+all_nest lib depth nested is [] at = All-nil (λ (t : RustTask). left lib (levels lib t.depth) (deepest lib) ≤ left lib nested (deepest lib))
+all_nest lib depth nested is (t ∷ ts) at =
+    let few : levels lib t.depth ≤ nested = omega (arith, is, at.0) in
+    All-cons (λ (u : RustTask). left lib (levels lib u.depth) (deepest lib) ≤ left lib nested (deepest lib)) t ts (less_left lib (levels lib t.depth) nested few)
+    (all_nest lib depth nested is ts at.1)
+
+pub tasks_nest : {l : Library} (lib : RustLibrary) (depth nested : ℕ) → nested ≡ levels lib (depth + 1) → (tasks now : List RustTask) → AreReady l depth (map task tasks)
+    → map task now ≡ filter (λ (u : Task). is_immediate u.place) (map task tasks)
+    → All (λ (t : RustTask). left lib (levels lib t.depth) (deepest lib) ≤ left lib nested (deepest lib)) now
+tasks_nest lib depth nested is tasks now ready immediate =
+    all_nest lib depth nested is now (subst (AreAt (suc depth)) (sym immediate) (at_filter (suc depth) (λ (u : Task). is_immediate u.place) (map task tasks) ready.at))
+
+-- in no task more may nest than the limit of depth says
+pub any_nest : (lib : RustLibrary) (nested : ℕ) → nested ≡ lib.depth_limit → (ts : List RustTask)
+    → All (λ (t : RustTask). left lib (levels lib t.depth) (deepest lib) ≤ left lib nested (deepest lib)) ts
+any_nest lib nested is [] = All-nil (λ (t : RustTask). left lib (levels lib t.depth) (deepest lib) ≤ left lib nested (deepest lib))
+any_nest lib nested is (t ∷ ts) =
+    let few : levels lib t.depth ≤ nested = omega (arith, is) in
+    All-cons (λ (u : RustTask). left lib (levels lib u.depth) (deepest lib) ≤ left lib nested (deepest lib)) t ts (less_left lib (levels lib t.depth) nested few) (any_nest lib nested is ts)
 
 pub none_long : {X : Type 0} (xs : List X) → length xs ≡ 0 → xs ≡ []
 none_long [] e = refl

@@ -53,11 +53,11 @@ GoesOnBelow s tasks = (s.end ≡ None) × (length s.outcomes.items < tasks)
 abbrev pub AreSoundTries : Library → List Tried → Type 0
 AreSoundTries library tries = All (λ t. IsSound library (attempt t.attempt)) tries
 
--- the task of this number was tried again after the first wave
+-- the task of this number is marked as tried again after the first wave
 abbrev pub IsRetried : Counts → ℕ → Type 0
 IsRetried c number = slice_index_or c.retried.items number true ≡ true
 
--- how many of the first n tasks were not tried again after the first wave
+-- how many of the first n tasks are not marked so
 abbrev pub firsts : List Bool → ℕ → ℕ
 firsts retried zero = 0
 firsts retried (suc n) = firsts retried n + cond (slice_index_or retried n true) 0 1
@@ -85,8 +85,8 @@ pub record IsJob (library : Library) (w : Wave) (job : Job) : Type 0 where
 abbrev pub AreOf : Library → List (Consumer Sent Global Soundness) → Type 0
 AreOf library receivers = All (λ r. IsOf library (received r)) receivers
 
--- Tasks were settled from attempts. Exactly those of them were accepted that were not tried again: no more than were
--- settled, and fewer if the first of them was tried again
+-- Tasks were settled from attempts. As many of them were counted as accepted as are not marked as tried again: no more
+-- than were settled, and fewer if the first of them is marked
 pub record IsAhead (old new : Progress) : Type 0 where
   pub longer : length old.settled.outcomes.items ≤ length new.settled.outcomes.items
   pub waves : new.counts.waves ≡ old.counts.waves

@@ -6,6 +6,7 @@ pub mod Groups
 pub mod Joined
 pub mod Mapped
 pub mod Runs
+pub mod Settling
 pub mod Signals
 pub mod Starts
 pub mod Statements

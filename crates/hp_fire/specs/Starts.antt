@@ -11,6 +11,7 @@ use Rattle.hp_store.specs.Changes.{changes}
 use Rattle.hp_store.specs.Stack.{Stack, cells_in}
 use Rattle.hp_fire.specs.declared.speculate.pending.Tried.{Tried}
 use Rattle.hp_fire.specs.declared.speculate.predecessors.Predecessors.{Predecessors}
+use Rattle.hp_fire.specs.declared.speculate.wave.Wave.{Wave}
 use Rattle.hp_fire.specs.declared.speculate.worker.Worker.{Worker}
 
 module _ {T : Type 0} (changes_of : T → Changes) where
@@ -29,6 +30,15 @@ module _ {T : Type 0} (changes_of : T → Changes) where
   pub record AreMerged (facts : List (Fact T)) (count : ℕ) (merged : Changes) : Type 0 where
     pub each : (j : ℕ) → j < count → IsSome (known_at facts j)
     pub changes : (cell : Cell) → merged cell ≡ posted_below facts count cell
+
+-- a pass that knew the facts before knows them after
+abbrev pub Remembers : {T : Type 0} → (before after : List (Fact T)) → Type 0
+Remembers before after = (j : ℕ) → IsSome (known_at before j) → known_at after j ≡ known_at before j
+
+-- who still has a pass had one before, which has only learned
+abbrev pub OnlyLearns : {T : Type 0} → (before after : Option (List (Fact T))) → Type 0
+OnlyLearns before None = Unit {0}
+OnlyLearns {T} before (Some facts) = (known : List (Fact T)) × (before ≡ Some known) × Remembers known facts
 
 -- what a pass knows of the layers that the tasks of a wave have posted
 abbrev pub Posts : Type 0
@@ -51,9 +61,20 @@ pub record StartsFrom (w : Worker) (n : ℕ) (start : Stack) : Type 0 where
   pub known : w.pass ≡ Some posts
   pub cells : cells_in start ≡ start_cells w.wave.now.snapshot posts n
 
--- The task was tried in a wave from this snapshot, before which so many tasks were settled: the attempt's reads held in
--- the snapshot, under at most one layer of each task of the wave before it. So those of the wave's first task held in the
--- snapshot itself.
+-- A worker tried the task in the wave, and its pass only learned meanwhile: the attempt's reads held in the wave's
+-- snapshot, under layers of the wave's tasks before it. The pass knows all of these after, and they have all that it
+-- knew before. So the reads of the wave's first task held in the snapshot itself.
+pub record IsTriedBy (w : Wave) (before after : Option Posts) (t : Tried) : Type 0 where
+  pub number : ℕ
+  pub index : t.index ≡ w.done + number
+  pub posts : Posts
+  pub then_knew : OnlyLearns before (Some posts)
+  pub still_knows : OnlyLearns (Some posts) after
+  pub has_pass : IsSome after
+  pub held : Holds (start_cells w.snapshot posts number) t.attempt.reads
+
+-- The same of what is sent, from a wave with this snapshot, before which so many tasks were settled. What is sent has no
+-- pass with it. So here the layers are any, at most one for each task of the wave before it.
 pub record IsTriedFrom (snapshot : Stack) (done : ℕ) (t : Tried) : Type 0 where
   pub number : ℕ
   pub index : t.index ≡ done + number

@@ -14,7 +14,6 @@ ghost use Rattle.hp_store.specs.Stack.{cells_in};
 ghost use Rattle.hp_attempt.specs.Mapped.{attempt as attempt_of, firing as firing_of};
 ghost use Rattle.hp_fire.specs.Mapped.{course, group as group_of};
 ghost use Rattle.hp_fire.specs.Runs.{Runs, RunsFiring, RunsGroup};
-ghost use Rattle.hp_fire.specs.Statements.{SiblingsFire, TaskFires};
 
 use crate::attempting::attempt_on;
 use crate::context::Context;
@@ -22,8 +21,7 @@ use crate::course::{Course, GroupOutcome};
 use crate::engine::Engine;
 use crate::halting::or_aborted;
 use crate::speculate::{
-    Alone, By, ByThreads, Effort, Found, Gate, Gated, Group, Job, Past, Progress, Receiver, Wave,
-    Workers,
+    Alone, By, ByThreads, Found, Gate, Gated, Job, Past, Progress, Receiver, Wave, Workers,
 };
 use hp_attempt::{Attempt, Outcome};
 use hp_board::Seat;
@@ -103,41 +101,7 @@ impl<W: Workers> Engine<'_, W> {
             (siblings (fire_task (library self.now.lib.now)) stop_at_veto (map task_of tasks.now))
             view.old view.new (group_of g)) }
     {
-        self.run_with(view, tasks, stop_at_veto, self.workers, false)
-    }
-
-    /// Fires the tasks of a group as siblings, where these workers try tasks ahead of their turn. If `eager` is set,
-    /// they are started even if they don't pay, as many as tasks and threads allow.
-    fn run_with<V: Workers>(
-        &self,
-        view: &mut View,
-        tasks: &[Task],
-        stop_at_veto: bool,
-        workers: &V,
-        eager: bool,
-    ) -> Result<GroupOutcome, AllocError>
-        requires ready { W.ready self.now.workers.now }
-        requires workers { V.ready workers.now }
-        ensures runs { IfOk result (SiblingsFire self.now.lib.now stop_at_veto tasks.now view.old view.new) }
-        ensures counted { IfOk result (λ g. g.accepted + g.reran ≡ length g.outcomes.items) }
-        ensures waves { IfOk result (λ g. g.waves ≤ g.reran + 1) }
-        ensures alone { self.now.width < 2 → IfOk result (λ g. g.waves ≡ 0) }
-    {
-        let fire = |view: &mut View, task: &Task, effort: &Effort, width: usize| -> Result<
-            Outcome,
-            AllocError,
-        >
-            requires { W.ready self.now.workers.now }
-            ensures { IfOk result (TaskFires self.entry.now.lib.now task.now view.old view.new) }
-        { self.inside(effort, width).fire_task(view, task) };
-        let group = Group {
-            engine: self.with_workers(workers),
-            tasks,
-            stop_at_veto,
-            eager,
-            fire: &fire,
-        };
-        group.run(view)
+        self.fire_group(view, tasks, self.lib.depth_limit(), stop_at_veto, false)
     }
 }
 
@@ -167,9 +131,8 @@ pub fn run_group<R: Threads + Sync, G: Gate + Sync>(
     ensures alone { width < 2 → IfOk result (λ g. g.waves ≡ 0) }
 {
     let past = Past::new(alloc, lib, width);
-    let threads = ByThreads::new(rt);
-    let engine = Engine::new(&threads, alloc, lib, width, &past);
     let gated = Gated { rt, gate };
+    let plain = ByThreads::new(rt);
     let tries = |engine: &Engine<'_, Alone>, wave: &Wave<'_>, seats: (
         Seat,
         Vec<Job<'_>>,
@@ -178,8 +141,16 @@ pub fn run_group<R: Threads + Sync, G: Gate + Sync>(
             × MayTry (library engine.now.lib.now) wave.now seats progress.old receivers.old }
         ensures { HasTried (library engine.now.lib.now) wave.now view.old view.new
             progress.old progress.new receivers.new result }
-    { gated.try_outside(engine, wave, seats, view, progress, receivers) };
-    engine.run_with(view, tasks, stop_at_veto, &By { tries: &tries }, true)
+    {
+        if wave.eager {
+            gated.try_outside(engine, wave, seats, view, progress, receivers)
+        } else {
+            plain.try_all(engine, wave, seats, view, progress, receivers)
+        }
+    };
+    let workers = By { tries: &tries };
+    let engine = Engine::new(&workers, alloc, lib, width, &past);
+    engine.fire_group(view, tasks, lib.depth_limit(), stop_at_veto, true)
 }
 
 /// Tries a task on a snapshot. The attempt stands for the task's firing on each state in which its reads hold.

@@ -1,11 +1,12 @@
 //! The tasks of signals, groups and firings. They call the statements in `statement`, which call them.
 
-ghost use Rattle.std.specs.Prelude.{◌≡◌, ◌+◌, true, IfOk, All, map};
+ghost use Rattle.std.specs.Prelude.{◌≡◌, ◌+◌, ◌<◌, ◌≤◌, IfOk, All, map, length};
 ghost use Rattle.hp_model.specs.Transactions.{Work};
 ghost use Rattle.hp_rule.specs.Mapped.{library, task as task_of};
 ghost use Rattle.hp_view.specs.Seeing.{Seeing};
 ghost use Rattle.hp_fire.specs.Runs.{AreReady, Steps};
 ghost use Rattle.hp_fire.specs.Statements.{TasksStart, SiblingsFire, TaskFires};
+ghost use Rattle.hp_fire.specs.Weights.{deepest, levels, left};
 
 use crate::context::Context;
 use crate::course::{Course, End, GroupOutcome};
@@ -46,41 +47,54 @@ impl<W: Workers> Engine<'_, W> {
             Err(tasks) => tasks,
         };
         let placed = place_tasks(self.alloc, tasks)?;
-        let group = self.fire_group(view, &placed.immediate, depth)?;
+        let nested = self
+            .lib
+            .depth_limit()
+            .saturating_sub(depth)
+            .saturating_sub(1);
+        let group = self.fire_group(view, &placed.immediate, nested, true, false)?;
         let course = placed_course(self.alloc, placed, group)?;
         Ok(course)
     }
 
-    /// Fires the tasks of a signal as siblings, in a transaction of depth `depth`. With several tasks and threads, and
-    /// enough work, workers try tasks ahead of their turn.
+    /// Fires tasks as siblings, in each of which at most `nested` firings may nest. If `stop_at_veto` is set, nothing
+    /// fires after a vetoed task. With several tasks and threads, and enough work, workers try tasks ahead of their
+    /// turn; if `eager` is set, as many as tasks and threads allow, even if they don't pay.
     // Inlined, its temporaries would be cleared for each signal that fires a single task, too.
     #[cycle(fire)]
     #[inline(never)]
-    fn fire_group(
+    pub(crate) fn fire_group(
         &self,
         view: &mut View,
         tasks: &[Task],
-        depth: u8,
+        nested: u8,
+        stop_at_veto: bool,
+        eager: bool,
     ) -> Result<GroupOutcome, AllocError>
         requires ready { W.ready self.now.workers.now }
-        requires tasks { All (λ t. t.depth ≡ depth + 1) tasks.now }
-        ensures { IfOk result (SiblingsFire self.now.lib.now true tasks.now view.old view.new) }
+        requires tasks { let lib = self.now.lib.now in
+            All (λ t. left lib (levels lib t.depth) (deepest lib) ≤ left lib nested (deepest lib)) tasks.now }
+        ensures runs { IfOk result (SiblingsFire self.now.lib.now stop_at_veto tasks.now view.old view.new) }
+        ensures counted { IfOk result (λ g. g.accepted + g.reran ≡ length g.outcomes.items) }
+        ensures waves { IfOk result (λ g. g.waves ≤ g.reran + 1) }
+        ensures alone { self.now.width < 2 → IfOk result (λ g. g.waves ≡ 0) }
     {
         let fire = |view: &mut View, task: &Task, effort: &Effort, width: usize| -> Result<
             Outcome,
             AllocError,
         >
-            requires { W.ready self.now.workers.now × (task.now.depth ≡ depth + 1) }
+            requires { let lib = self.now.lib.now in W.ready self.now.workers.now
+                × (left lib (levels lib task.now.depth) (deepest lib) ≤ left lib nested (deepest lib)) }
             ensures { IfOk result (TaskFires self.entry.now.lib.now task.now view.old view.new) }
         {
-            let _depth = depth;
+            let _nested = nested;
             self.inside(effort, width).fire_task(view, task)
         };
         let group = Group {
             engine: *self,
             tasks,
-            stop_at_veto: true,
-            eager: false,
+            stop_at_veto,
+            eager,
             fire: &fire,
         };
         group.run(view)

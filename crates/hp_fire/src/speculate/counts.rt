@@ -38,6 +38,19 @@ impl Counts {
         })
     }
 
+    /// The counts of a group that has no waves.
+    pub(crate) fn none(alloc: Global) -> Counts
+        ensures { (result.accepted ≡ 0) × (result.waves ≡ 0) }
+    {
+        Counts {
+            retried: Vec::new(alloc),
+            accepted: 0,
+            waves: 0,
+            tried: 0,
+            kept: 0,
+        }
+    }
+
     /// A wave begins, after `done` tasks are settled. It tries the tasks without an attempt, and the first task in any
     /// case.
     pub(crate) fn begin_wave(&mut self, done: usize, attempts: &VecDeque<Option<Attempt>>)

@@ -72,7 +72,7 @@ impl<W: Workers, F: Fn(&mut View, &Task, &Effort, usize) -> Result<Outcome, Allo
         if !settled.goes_on(self.tasks.len()) {
             return Ok(GroupOutcome::of_owner(settled.outcomes, settled.end));
         }
-        let mut progress = Progress::after(self.engine.alloc, settled, self.tasks.len())?;
+        let mut progress = Progress::after(self.engine.alloc, settled, self.tasks.len());
         while progress.settled.goes_on(self.tasks.len()) {
             self.advance(view, &mut progress)?;
         }
@@ -188,6 +188,7 @@ impl<W: Workers, F: Fn(&mut View, &Task, &Effort, usize) -> Result<Outcome, Allo
             tasks: self.tasks,
             done: progress.settled.outcomes.len(),
             stop_at_veto: self.stop_at_veto,
+            eager: self.eager,
             width: self.engine.width,
         };
         let Ok(start) = prepare(plan, self.engine.alloc, view, &mut progress.pending) else {

@@ -51,6 +51,16 @@ impl Pending {
         })
     }
 
+    /// No place for attempts.
+    pub(crate) fn none(alloc: Global) -> Pending
+        ensures { (library : ModelLibrary) → AreSound library result.attempts.items }
+    {
+        Pending {
+            attempts: VecDeque::new(alloc),
+            costs: Vec::new(alloc),
+        }
+    }
+
     /// Whether several tasks have no attempt whose reads hold in the view's cells.
     pub(crate) fn lacks_several(&self, view: &View) -> bool {
         let mut lacks_one = false;

@@ -6,7 +6,7 @@ ghost use Rattle.hp_model.specs.Cells.{Cell as ModelCell, over};
 ghost use Rattle.hp_board.specs.Passes.{IsPassOf};
 ghost use Rattle.hp_store.specs.Changes.{changes};
 ghost use Rattle.hp_store.specs.Stack.{cells_in};
-ghost use Rattle.hp_fire.specs.Starts.{Posts, HasMerged, start_cells};
+ghost use Rattle.hp_fire.specs.Starts.{Posts, HasMerged, Remembers, start_cells};
 
 use crate::speculate::index::WaveIndex;
 use crate::speculate::wave::Wave;
@@ -56,6 +56,7 @@ impl Predecessors {
         requires merged { HasMerged self.old pass }
         ensures pass { IfOk result (λ r. IsPassOf wave.now.board.cells r.1) }
         ensures merged { IfOk result (λ r. HasMerged self.new r.1) }
+        ensures knows { IfOk result (λ r. Remembers pass r.1) }
         ensures start { IfOk result (λ r. cells_in r.0 ≡ start_cells wave.now.snapshot r.1 number) }
     {
         self.keep_below(alloc, number)?;
@@ -85,6 +86,7 @@ impl Predecessors {
         requires merged { HasMerged self.old pass }
         ensures pass { IsPassOf wave.now.board.cells result }
         ensures merged { HasMerged self.new result }
+        ensures knows { Remembers pass result }
     {
         for predecessor in self.count..number {
             let (found, after) = wave.board.look(predecessor, pass);

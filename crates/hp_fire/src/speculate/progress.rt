@@ -1,11 +1,14 @@
 //! The progress of a group with workers.
 
-ghost use Rattle.std.specs.Prelude.{◌≡◌, ◌+◌, ◌-◌, ◌^◌, ◌<◌, [], ◌∷◌, ◌++◌, IfOk, OnOk, length, drop, map, option_map};
+ghost use Rattle.std.specs.Prelude.{◌≡◌, ◌+◌, ◌-◌, ◌^◌, ◌<◌, [], ◌∷◌, ◌++◌, None, IsSome, IfOk, OnOk};
+ghost use Rattle.std.specs.Prelude.{length, drop, map, option_map};
 ghost use Rattle.hp_value.specs.Mapped.{veto as veto_in};
 ghost use Rattle.hp_model.specs.Rules.{Library as ModelLibrary};
 ghost use Rattle.hp_rule.specs.Mapped.{task as task_of};
+ghost use Rattle.hp_view.specs.Seeing.{now_in};
 ghost use Rattle.hp_attempt.specs.Fronts.{AreSound, stopped_by};
 ghost use Rattle.hp_fire.specs.Groups.{Comes, IsAcceptedWithin, IsAhead, IsRetried};
+ghost use Rattle.hp_fire.specs.Settling.{SettlesFront};
 
 use crate::course::GroupOutcome;
 use crate::speculate::channel::Receiver;
@@ -34,20 +37,24 @@ pub struct Progress {
 }
 
 impl Progress {
-    /// A group whose first tasks are settled, and of whose other tasks none has been tried.
-    pub(crate) fn after(
-        alloc: Global,
-        settled: Settled,
-        tasks: usize,
-    ) -> Result<Progress, AllocError>
-        ensures begins { IfOk result (λ p. (p.settled ≡ settled) × (p.counts.accepted ≡ 0) × (p.counts.waves ≡ 0)) }
-        ensures sound { IfOk result (λ p. (library : ModelLibrary) → AreSound library p.pending.attempts.items) }
+    /// A group whose first tasks are settled, and of whose other tasks none has been tried. If memory runs out, it has
+    /// no place for attempts: then no wave is ever due, and the owner runs all tasks.
+    pub(crate) fn after(alloc: Global, settled: Settled, tasks: usize) -> Progress
+        ensures begins { (result.settled ≡ settled) × (result.counts.accepted ≡ 0) × (result.counts.waves ≡ 0) }
+        ensures sound { (library : ModelLibrary) → AreSound library result.pending.attempts.items }
     {
-        Ok(Progress {
-            pending: Pending::new(alloc, tasks, settled.outcomes.len())?,
-            counts: Counts::new(alloc, tasks)?,
-            settled,
-        })
+        match places_for(alloc, tasks, settled.outcomes.len()) {
+            Ok((pending, counts)) => Progress {
+                settled,
+                pending,
+                counts,
+            },
+            Err(_) => Progress {
+                settled,
+                pending: Pending::none(alloc),
+                counts: Counts::none(alloc),
+            },
+        }
     }
 
     /// Whether workers should try the tasks that aren't settled: there are several workers, several tasks have no
@@ -71,7 +78,8 @@ impl Progress {
         self.counts.begin_wave(done, &self.pending.attempts);
     }
 
-    /// Accepts the front of the attempts.
+    /// Accepts the front of the attempts, unless a veto has stopped the group: those from the next task on, in their
+    /// order, up to a task that has no attempt of its own that holds, or a veto that stops the group. The others stay.
     pub(crate) fn settle(
         &mut self,
         alloc: Global,
@@ -84,6 +92,9 @@ impl Progress {
         ensures ahead { OnOk result (IsAhead self.old self.new) }
         ensures comes { OnOk result ((library : ModelLibrary) → AreSound library self.old.pending.attempts.items
             → Comes library stop_at_veto (map task_of tasks.now) view.old self.old view.new self.new) }
+        ensures stopped { IsSome self.old.settled.end → (self.new ≡ self.old) × (view.new ≡ view.old) }
+        ensures front { self.old.settled.end ≡ None
+            → OnOk result (SettlesFront stop_at_veto (map task_of tasks.now) (now_in view.new) self.old self.new) }
     {
         if self.settled.end.is_some() {
             return Ok(());
@@ -182,6 +193,16 @@ impl Progress {
         let is_missing = matches!(self.pending.attempts.front(), Some(None));
         is_missing && self.settled.goes_on(wave.tasks.len())
     }
+}
+
+// Places for the attempts at the tasks of a group that aren't settled, and counts, before its first wave.
+fn places_for(alloc: Global, tasks: usize, settled: usize) -> Result<(Pending, Counts), AllocError>
+    ensures sound { IfOk result (λ r. (library : ModelLibrary) → AreSound library r.0.attempts.items) }
+    ensures counts { IfOk result (λ r. (r.1.accepted ≡ 0) × (r.1.waves ≡ 0)) }
+{
+    let pending = Pending::new(alloc, tasks, settled)?;
+    let counts = Counts::new(alloc, tasks)?;
+    Ok((pending, counts))
 }
 
 // The tasks after the first `done`.

@@ -25,6 +25,8 @@ pub(crate) struct Plan<'a> {
     pub(crate) done: usize,
     /// Whether a veto stops the group.
     pub(crate) stop_at_veto: bool,
+    /// Whether workers are started even if they don't pay.
+    pub(crate) eager: bool,
     /// The most threads that the wave may use.
     pub(crate) width: usize,
 }
@@ -63,6 +65,7 @@ pub(crate) fn prepare<'a>(
         tasks,
         done,
         stop_at_veto,
+        eager,
         width,
     } = plan;
     let left = tasks.len() - done;
@@ -79,6 +82,7 @@ pub(crate) fn prepare<'a>(
         tasks,
         done,
         stop_at_veto,
+        eager,
         kept,
         snapshot,
         board,

@@ -10,7 +10,7 @@ ghost use Rattle.hp_board.specs.Deal.{IsSeatOf};
 ghost use Rattle.hp_attempt.specs.Fronts.{AreSound};
 ghost use Rattle.hp_attempt.specs.Mapped.{attempt as attempt_of};
 ghost use Rattle.hp_fire.specs.Given.{MayFire, Fires};
-ghost use Rattle.hp_fire.specs.Starts.{IsTriedFrom};
+ghost use Rattle.hp_fire.specs.Starts.{IsTriedBy, OnlyLearns};
 ghost use Rattle.hp_fire.specs.Groups.{AreSoundTries, IsAcceptedWithin, IsWave, IsWorker, IsJob, AreOf, ComesInWave};
 
 use crate::attempting::attempt_on;
@@ -207,7 +207,8 @@ impl<
         ensures worker { IsWorker worker.new }
         ensures wave { worker.new.wave ≡ worker.old.wave }
         ensures sound { IfSome result (λ t. IsSound (library self.now.lib.now) (attempt_of t.attempt)) }
-        ensures tried { let wave = worker.old.wave.now in IfSome result (IsTriedFrom wave.snapshot wave.done) }
+        ensures knows { OnlyLearns worker.old.pass worker.new.pass }
+        ensures tried { IfSome result (IsTriedBy worker.old.wave.now worker.old.pass worker.new.pass) }
     {
         for _ in 0..worker.wave.tasks.len() {
             let number = worker.draw()?;
@@ -229,7 +230,8 @@ impl<
         ensures worker { IsWorker worker.new }
         ensures wave { worker.new.wave ≡ worker.old.wave }
         ensures sound { IfSome result (λ t. IsSound (library self.now.lib.now) (attempt_of t.attempt)) }
-        ensures tried { let wave = worker.old.wave.now in IfSome result (IsTriedFrom wave.snapshot wave.done) }
+        ensures knows { OnlyLearns worker.old.pass worker.new.pass }
+        ensures tried { IfSome result (IsTriedBy worker.old.wave.now worker.old.pass worker.new.pass) }
     {
         if worker.has_given_up() {
             return None;
@@ -262,7 +264,8 @@ impl<
         ensures worker { IsWorker worker.new }
         ensures wave { worker.new.wave ≡ worker.old.wave }
         ensures sound { IfSome result (λ t. IsSound (library self.now.lib.now) (attempt_of t.attempt)) }
-        ensures tried { let wave = worker.old.wave.now in IfSome result (IsTriedFrom wave.snapshot wave.done) }
+        ensures knows { OnlyLearns worker.old.pass worker.new.pass }
+        ensures tried { IfSome result (IsTriedBy worker.old.wave.now worker.old.pass worker.new.pass) }
     {
         let task = &worker.wave.tasks[index];
         let start = worker.start_of(number)?;

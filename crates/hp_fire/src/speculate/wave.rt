@@ -32,6 +32,8 @@ pub struct Wave<'a> {
     pub(crate) done: usize,
     /// Whether a veto stops the group.
     pub(crate) stop_at_veto: bool,
+    /// Whether workers are started even if they don't pay: it is the group of a call of `run_group`, and none inside.
+    pub(crate) eager: bool,
     /// For each task of the wave, what its kept attempt wrote, if there is one. The list is empty if no attempt is
     /// kept.
     pub(crate) kept: Vec<Option<Arc<Layer>>>,

@@ -1,9 +1,9 @@
 //! The workers of a wave.
 
-ghost use Rattle.std.specs.Prelude.{◌≡◌, ◌<◌, IfOk, IfSome, length};
+ghost use Rattle.std.specs.Prelude.{◌≡◌, ◌<◌, IfOk, IfSome, IsSome, length};
 ghost use Rattle.hp_board.specs.Deal.{IsSeatOf};
 ghost use Rattle.hp_fire.specs.Groups.{IsWorker};
-ghost use Rattle.hp_fire.specs.Starts.{StartsFrom};
+ghost use Rattle.hp_fire.specs.Starts.{OnlyLearns, StartsFrom};
 
 use crate::speculate::index::WaveIndex;
 use crate::speculate::policy::MAX_CONFLICTS;
@@ -57,6 +57,7 @@ impl<'a> Worker<'a> {
         requires { IsWorker self.old }
         ensures worker { IsWorker self.new }
         ensures wave { self.new.wave ≡ self.old.wave }
+        ensures pass { self.new.pass ≡ self.old.pass }
         ensures number { IfSome result (λ n. n < length self.old.wave.now.board.cells) }
     {
         let seat = self.seat.take()?;
@@ -87,6 +88,7 @@ impl<'a> Worker<'a> {
         requires number { number < length self.old.wave.now.board.cells }
         ensures worker { IsWorker self.new }
         ensures wave { self.new.wave ≡ self.old.wave }
+        ensures knows { OnlyLearns self.old.pass self.new.pass }
         ensures start { IfSome result (StartsFrom self.new number) }
     {
         let pass = self.pass.take()?;
@@ -106,6 +108,8 @@ impl<'a> Worker<'a> {
         requires number { number < length self.old.wave.now.board.cells }
         ensures worker { IsWorker self.new }
         ensures wave { self.new.wave ≡ self.old.wave }
+        ensures knows { OnlyLearns self.old.pass self.new.pass }
+        ensures keeps { IsSome self.old.pass → IsSome self.new.pass }
     {
         let Ok(posted) = boxed(self.alloc, layer) else {
             return false;
@@ -131,6 +135,8 @@ impl<'a> Worker<'a> {
         requires number { number < length self.old.wave.now.board.cells }
         ensures worker { IsWorker self.new }
         ensures wave { self.new.wave ≡ self.old.wave }
+        ensures knows { OnlyLearns self.old.pass self.new.pass }
+        ensures keeps { IsSome self.old.pass → IsSome self.new.pass }
     {
         if let Some(pass) = self.pass.take() {
             let pass = self.predecessors.note(self.wave, number, attempt, pass);

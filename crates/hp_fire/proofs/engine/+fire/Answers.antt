@@ -1,4 +1,4 @@
-use Rattle.std.proofs.Common.{rules, arith, ◌≡◌, ◌<◌, ◌≤◌, refl, ap, sym, ◌∙◌, subst, [], ◌∷◌, map, length, true, false}
+use Rattle.std.proofs.Common.{rules, arith, ℕ, ◌+◌, ◌≡◌, ◌<◌, ◌≤◌, refl, ap, sym, ◌∙◌, subst, [], ◌∷◌, map, length, true, false}
 use Rattle.std.proofs.Common.{SFits, w64, of_z, to_z, Ok}
 use Rattle.std.proofs.lemmas.Int.{to_z-of_z}
 use Rattle.std.proofs.lemmas.Result.{err_from_is_err_and, IfOk-weaker}
@@ -25,12 +25,14 @@ use Rattle.hp_query.specs.declared.entry.Findings.{Findings as RustFindings}
 use Rattle.hp_fire.specs.declared.deciding.Decision.{Decision}
 use Rattle.hp_fire.specs.declared.deciding.Decision.TheVariants.{Acts}
 use Rattle.hp_fire.specs.Decides.{ThenActs, Decides}
+use Rattle.hp_rule.specs.declared.library.Library.{Library as RustLibrary}
+use Rattle.hp_fire.specs.Weights.{deepest, levels, left}
 use Rattle.hp_fire.specs.Runs.{Runs, RunsGroup, Steps, Made, Makes, SubRuns}
 use Rattle.hp_fire.proofs.Decisions.{acts_runs}
 use Rattle.hp_fire.proofs.Making.{steps_halt}
 use Rattle.hp_fire.proofs.Stating.{with_is, veto_is, findings_now, body_under, steps_at, runs_at, signal_makes, found_halt, found_steps}
 use Rattle.hp_fire.proofs.Steps.{runs_answer, runs_ends, runs_value, found_value, sub_over, sub_then, body_each, loop_starts, loop_next, loop_stops, loop_ends, lone_runs}
-use Rattle.hp_fire.proofs.Starting.{signal_starts, signal_ready, then_starts, are_ready, start_none, start_single, single_measure, start_runs, group_measure, none_long, map_none, tasks_at}
+use Rattle.hp_fire.proofs.Starting.{signal_starts, signal_ready, then_starts, are_ready, start_none, start_single, single_measure, start_runs, group_measure, none_long, map_none, tasks_nest}
 use Rattle.hp_fire.proofs.engine.+fire.Goals as goal
 
 -- ---- a lone statement
@@ -174,9 +176,19 @@ Engine::start-fire_group-requires g t c = λ κs lives.
     let some : c.in_ok-tasks.tasks.items ≡ [] → ⊥ = λ e. let zero : c.in_ok-tasks.tasks.len ≡ 0 = sym long ∙ ap length e in search rules in
     let now : map task c.deref.result.now ≡ filter (λ (u : Task). is_immediate u.place) (map task c.in_ok-tasks.tasks.items) =
     ap (map task) c.deref.ensures.value ∙ c.in_ok-placed.ensures.immediate ∙ ap (λ ts. filter (λ (u : Task). is_immediate u.place) (map task ts)) c.in-Err.ensures.others in
-    let falls = group_measure c.args.self.now.lib.now c.args.depth c.in_ok-tasks.tasks.items ready some in
-    let at = tasks_at c.args.depth c.in_ok-tasks.tasks.items c.deref.result.now ready now in
-    (omega (arith, falls, c.decreases), (lives, (search rules, search (at, rules))))
+    let nested : c.saturating_sub-nested.result ≡ levels c.args.self.now.lib.now (c.args.depth + 1) = omega (arith, c.depth_limit.ensures, c.saturating_sub.ensures, c.saturating_sub-nested.ensures) in
+    let falls = group_measure c.args.self.now.lib.now c.args.depth c.saturating_sub-nested.result c.in_ok-tasks.tasks.items nested ready some in
+    let nest = tasks_nest c.args.self.now.lib.now c.args.depth c.saturating_sub-nested.result nested c.in_ok-tasks.tasks.items c.deref.result.now ready now in
+    (omega (arith, falls, c.decreases), (lives, (search rules, search (nest, rules))))
+
+-- the same by another name of the library
+less_by : (lib other : RustLibrary) (depth most : ℕ) → lib ≡ other → left other (levels other depth) (deepest other) ≤ most → left lib (levels lib depth) (deepest lib) ≤ most
+less_by lib other depth most same less = subst (λ (l : RustLibrary). left l (levels l depth) (deepest l) ≤ most) (sym same) less
+
+pub Engine::fire_group-fire-fire_task-requires : goal.Engine::fire_group-fire-fire_task-requires
+Engine::fire_group-fire-fire_task-requires g t c = λ κs lives.
+    let less = less_by c.inside.result.lib.now _ c.args.task.now.depth _ (ap (λ r. r.now) c.inside.ensures.lib) c.requires.1 in
+    (omega (arith, less, c.decreases), (lives, search rules))
 
 pub Engine::start-returns : goal.Engine::start-returns
 Engine::start-returns g t c = λ work before starts.
@@ -193,7 +205,7 @@ Engine::start-returns g t c = λ work before starts.
     (runs_answer (c.in_ok-course.ensures ∙ (λ i. followed (record { end = done; queued = queued i; detached = apart i; items = no_items }) (group_answer (group c.in_ok-group.group))))
     (start_runs (map task c.in_ok-tasks.tasks.items) ready (λ e. some (map_none task c.in_ok-tasks.tasks.items e))
     (subst (λ ts. RunsGroup (library c.args.self.now.lib.now) (siblings (fire_task (library c.args.self.now.lib.now)) true ts) c.args.view.now c.fire_group.new.view
-    (group c.in_ok-group.group)) now c.in_ok-group.ensures)))
+    (group c.in_ok-group.group)) now c.in_ok-group.ensures.runs)))
 
 -- ---- the statements
 

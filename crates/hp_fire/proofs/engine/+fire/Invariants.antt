@@ -46,10 +46,10 @@ abbrev pub decreases-Engine::start : goal.decreases-Engine::start
 decreases-Engine::start g l = 16 * left l.self.now.lib.now (levels l.self.now.lib.now l.depth) 0 + 1
 
 abbrev pub decreases-Engine::fire_group : goal.decreases-Engine::fire_group
-decreases-Engine::fire_group g l = 16 * left l.self.now.lib.now (levels l.self.now.lib.now (l.depth + 1)) (deepest l.self.now.lib.now) + 13
+decreases-Engine::fire_group g l = 16 * left l.self.now.lib.now l.nested (deepest l.self.now.lib.now) + 13
 
 abbrev pub decreases-Engine::fire_group-fire : goal.decreases-Engine::fire_group-fire
-decreases-Engine::fire_group-fire g l = 16 * left l.self.now.lib.now (levels l.self.now.lib.now (l.depth + 1)) (deepest l.self.now.lib.now) + 12
+decreases-Engine::fire_group-fire g l = 16 * left l.self.now.lib.now l.nested (deepest l.self.now.lib.now) + 12
 
 abbrev pub decreases-Engine::fire_task : goal.decreases-Engine::fire_task
 decreases-Engine::fire_task g l = 16 * left l.self.now.lib.now (levels l.self.now.lib.now l.task.now.depth) (deepest l.self.now.lib.now) + 3

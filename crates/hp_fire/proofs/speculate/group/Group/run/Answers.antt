@@ -23,10 +23,10 @@ returns-clause-runs g c =
 
 pub loop-view-init : goal.loop-view-init
 loop-view-init g c =
-    let b = c.in_ok-progress.ensures.begins in
-    let counted : IsCounted c.in_ok-progress.progress = (omega (arith, b.1), omega (arith, b.1, b.2)) in (
+    let b = c.after-progress.ensures.begins in
+    let counted : IsCounted c.after-progress.result = (omega (arith, b.1), omega (arith, b.1, b.2)) in (
       counted,
-      c.in_ok-progress.ensures.sound (library c.args.self.now.engine.lib.now),
+      c.after-progress.ensures.sound (library c.args.self.now.engine.lib.now),
       subst
           (λ (s : Settled). IsSoFar (library c.args.self.now.engine.lib.now) c.args.self.now.stop_at_veto (map task c.args.self.now.tasks.now) c.args.view.now
           c.fire_before_workers.new.view s.outcomes.items (option_map veto s.end)) (sym b.0) c.in_ok-settled.ensures.so_far,

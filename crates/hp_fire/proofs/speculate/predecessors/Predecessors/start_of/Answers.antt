@@ -1,11 +1,10 @@
-use Rattle.std.proofs.Common.{arith, rules, ap, ◌∙◌, ◌≡◌, ◌<◌, suc, subst, length}
-use Rattle.std.specs.Prelude.{IfNone, IfSome}
+use Rattle.std.proofs.Common.{arith, rules, ap, ◌∙◌, ◌≡◌, ◌<◌, subst, length}
 use Rattle.std.specs.Option.{option_or}
 use Rattle.hp_board.specs.Passes.{Learns, known_at}
 use Rattle.hp_store.specs.Changes.{changes}
 use Rattle.hp_store.specs.Stack.{cells_in}
 use Rattle.hp_fire.specs.Starts.{layer_changes}
-use Rattle.hp_fire.proofs.Posted.{AreFound, found_starts, found_nothing, found_layer, found_cells}
+use Rattle.hp_fire.proofs.Posted.{AreFound, found_starts, found_nothing, found_layer, found_cells, remembers_same, remembers_then, remembers_learns}
 use Rattle.hp_fire.proofs.speculate.predecessors.Predecessors.start_of.Goals as goal
 
 pub loop-predecessor-init : goal.loop-predecessor-init
@@ -15,6 +14,7 @@ loop-predecessor-init c =
       found_starts layer_changes c.args.pass c.keep_below.new.self.count (changes c.keep_below.new.self.layer.value) (changes c.new-later.result)
           (λ cell. ap (λ l. changes l cell) c.new-later.ensures) are,
       c.in_ok-keep_below.ensures.below,
+      remembers_same c.args.pass,
     )
 
 pub loop-predecessor-preserved-in_default : goal.loop-predecessor-preserved-in_default
@@ -24,6 +24,7 @@ loop-predecessor-preserved-in_default c =
       found_nothing layer_changes c.loop-predecessor.pass c.look-after.result.1 c.loop-predecessor.predecessor _ c.loop-predecessor.self.count
           (changes c.loop-predecessor.self.layer.value) (changes c.loop-predecessor.later) (omega arith) nothing c.loop-predecessor.invariant.1,
       omega arith,
+      remembers_then c.args.pass c.loop-predecessor.pass c.look-after.result.1 c.loop-predecessor.invariant.3 (λ j was. ap (λ l. known_at l j) nothing.1),
     )
 
 pub loop-predecessor-preserved : goal.loop-predecessor-preserved
@@ -44,10 +45,15 @@ loop-predecessor-preserved c =
           (c.in_ok-take_in_next.ensures.later o cell))
           (λ o. let after = c.take_in_next.ensures.after_later o in (ap (λ p. p.count) after, λ cell. ap (λ p. changes p.layer.value cell) after)),
       omega arith,
+      remembers_then c.args.pass c.loop-predecessor.pass c.look-after.result.1 c.loop-predecessor.invariant.3
+          (remembers_learns c.args.wave.now.board.cells c.loop-predecessor.pass i c.in-Some.layer.now c.look-after.result.1 c.loop-predecessor.invariant.0 inside learns),
     )
 
 pub returns-clause-merged : goal.returns-clause-merged
 returns-clause-merged c = c.loop-predecessor.invariant.1.merged_are
+
+pub returns-clause-knows : goal.returns-clause-knows
+returns-clause-knows c = c.loop-predecessor.invariant.3
 
 pub returns-clause-start : goal.returns-clause-start
 returns-clause-start c =

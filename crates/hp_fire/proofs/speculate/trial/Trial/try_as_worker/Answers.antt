@@ -8,6 +8,7 @@ use Rattle.hp_store.specs.Stack.{Stack}
 use Rattle.hp_fire.specs.declared.speculate.wave.Wave.{Wave}
 use Rattle.hp_fire.specs.Starts.{IsTriedFrom}
 use Rattle.hp_fire.proofs.OneOrigin.{only_one, only_start}
+use Rattle.hp_fire.proofs.Posted.{tried_from}
 use Rattle.hp_fire.proofs.speculate.trial.Trial.try_as_worker.Goals as goal
 
 pub hand_over-requires-clause-sound : goal.hand_over-requires-clause-sound
@@ -18,7 +19,8 @@ pub hand_over-requires-clause-tried : goal.hand_over-requires-clause-tried
 hand_over-requires-clause-tried g c = λ s n is.
     let wave = c.args.wave.now in
     let same = only_start wave.snapshot s wave.done n (sent c.loop.sender) c.loop.invariant.2 is in
-    let tried = subst (λ (w : Wave). IsTriedFrom w.snapshot w.done c.in-Some.tried) c.loop.invariant.4 c.in-Some.ensures.tried in
+    let tried = subst (λ (w : Wave). IsTriedFrom w.snapshot w.done c.in-Some.tried) c.loop.invariant.4
+    (tried_from c.loop.worker.wave.now c.loop.worker.pass c.next_attempt.new.worker.pass c.in-Some.tried c.in-Some.ensures.tried) in
     subst (λ (m : ℕ). IsTriedFrom s m c.in-Some.tried) same.1 (subst (λ (t : Stack). IsTriedFrom t wave.done c.in-Some.tried) same.0 tried)
 
 pub loop-preserved : goal.loop-preserved
