@@ -67,12 +67,17 @@ def module_of(file):
 
 
 def place_of(file, text, first, name):
-    """The path below the crate of the function of this name that begins at a line."""
-    lines = text.split("\n")[: first - 1]
-    is_method = text.split("\n")[first - 1].startswith(" ")
-    heads = [IMPL.match(line) for line in lines if line.startswith("impl")] if is_method else []
-    owner = heads[-1]["type"].rpartition("::")[2] + (heads[-1]["of"] or "").rpartition("::")[2] if heads else ""
-    return "::".join(part for part in (module_of(file), owner, name) if part)
+    """The path below the crate of the function of this name that begins at a line, or of its module if the head of its
+    impl takes several lines or has a bound with an arrow."""
+    lines, module = text.split("\n"), module_of(file)
+    heads = [line for line in lines[: first - 1] if line.startswith("impl")]
+    if not lines[first - 1].startswith(" ") or not heads:
+        return "::".join(part for part in (module, name) if part)
+    head = IMPL.match(heads[-1])
+    if not head:
+        return module
+    owner = head["type"].rpartition("::")[2] + (head["of"] or "").rpartition("::")[2]
+    return "::".join(part for part in (module, owner, name) if part)
 
 
 def unique_names(texts):
