@@ -31,13 +31,16 @@ class Body:
         self.proofs = "proofs" + re.sub(r"(/lib|/main)?\.rt$", "", file.removeprefix("src")) + "/"
         self.is_unique = False
 
-    def has(self, file, line):
-        """Whether a place that the prover names belongs to the function: a line of it, or a file of its proof."""
+    def has(self, file, line, said=""):
+        """Whether a place that the prover names belongs to the function: a line of it, or a file of its proof. The file
+        of a cycle of calls belongs to it if what is said there names a goal of the function."""
         if file == self.file:
             return self.first <= line <= self.last
         folder, _, _ = file.rpartition("/")
         is_near = folder.startswith("proofs/" if self.is_unique else self.proofs)
-        return is_near and os.path.basename(folder) == self.name
+        whose = os.path.basename(folder)
+        is_of_cycle = whose.startswith("+") and re.search(rf"`(?:\S*::)?{self.name}-", said)
+        return is_near and (whose == self.name or bool(is_of_cycle))
 
     def is_apart_from(self, other):
         """Whether both can be tried together: it can be told of which function a complaint is, and neither edit calls

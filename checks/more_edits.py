@@ -351,7 +351,7 @@ def refused_of(group, status, lines, changed):
     places = [(place_in(line), line) for line in lines if not NO_SUCH_NAME.search(line)]
     found = {}
     for body in group:
-        of_it = (line for place, line in places if place and body.has(*place) and GAVE_UP not in line)
+        of_it = (line for place, line in places if place and body.has(*place, line) and GAVE_UP not in line)
         shown = next(of_it, None)
         if shown:
             found[body.path] = shown
