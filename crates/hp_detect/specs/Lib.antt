@@ -1,5 +1,6 @@
 pub mod Stepped
 pub mod Chunks
+pub mod Shapes
 pub mod Ropes
 pub mod Waiting
 pub mod Mapped

@@ -5,7 +5,8 @@ ghost use Rattle.std.specs.Prelude.{option_to_list, if◌then◌else◌, slice_g
 ghost use lib.Pointwise.{pointwise};
 ghost use Rattle.hp_value.specs.Mapped.{occurrence};
 ghost use Rattle.hp_value.specs.Same.{occurrence_same};
-ghost use Rattle.hp_detect.specs.Ropes.{rest_laid_out, RestIsCounted, IsRun};
+ghost use Rattle.hp_detect.specs.Ropes.{rest_laid_out, RestIsCounted, RestIs, IsRun};
+ghost use Rattle.hp_detect.specs.Shapes.{IsBalanced};
 
 use crate::chunk::Chunk;
 use crate::rope::{Rope, count, leaf, run, split_first, with};
@@ -15,7 +16,7 @@ use std::marker::Model;
 use std::sync::Arc;
 
 /// The most occurrences in a chunk. Adding an occurrence to a queue copies fewer than that.
-const MOST_IN_CHUNK: usize = 8;
+pub(crate) const MOST_IN_CHUNK: usize = 8;
 
 /// A first-in, first-out queue of occurrences.
 ///
@@ -231,7 +232,8 @@ fn behind<'a>(middle: &'a Option<Arc<Rope>>, tail: &'a Chunk, at: usize) -> &'a 
 
 fn shared(middle: &Option<Arc<Rope>>) -> Result<Option<Arc<Rope>>, AllocError>
     ensures { IfOk result (λ m.
-        (rest_laid_out m ≡ rest_laid_out middle.now) × (RestIsCounted middle.now → RestIsCounted m)) }
+        (rest_laid_out m ≡ rest_laid_out middle.now) × (RestIsCounted middle.now → RestIsCounted m)
+        × (RestIs IsBalanced middle.now → RestIs IsBalanced m)) }
 {
     match middle {
         Some(middle) => Ok(Some(Arc::try_clone(middle)?)),
