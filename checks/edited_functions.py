@@ -20,7 +20,7 @@ class Body:
 
     def __init__(self, path, file, name, lines):
         self.path, self.file, self.name = path, file, name
-        # The function's path below the crate, as the prover prints it.
+        # What names the function to the prover.
         self.place = ""
         # The numbers of its first and last line.
         self.first, self.last = lines
@@ -40,7 +40,7 @@ class Body:
         is_near = folder.startswith("proofs/" if self.is_unique else self.proofs)
         whose = os.path.basename(folder)
         is_of_cycle = whose.startswith("+") and re.search(rf"`(?:\S*::)?{self.name}-", said)
-        return is_near and (whose == self.name or bool(is_of_cycle))
+        return is_near and (whose.removeprefix("+") == self.name or bool(is_of_cycle))
 
     def is_apart_from(self, other):
         """Whether both can be tried together: it can be told of which function a complaint is, and neither edit calls
@@ -70,8 +70,9 @@ def module_of(file):
 
 
 def place_of(file, text, first, name):
-    """The path below the crate of the function of this name that begins at a line, or of its module if the head of its
-    impl takes several lines or has a bound with an arrow."""
+    """What names the function of this name that begins at a line: its module and its name, or its type and its name,
+    since a type may be of another module. If the head of its impl takes several lines, or has a bound with an arrow, it
+    is the module."""
     lines, module = text.split("\n"), module_of(file)
     heads = [line for line in lines[: first - 1] if line.startswith("impl")]
     if not lines[first - 1].startswith(" ") or not heads:
@@ -79,8 +80,7 @@ def place_of(file, text, first, name):
     head = IMPL.match(heads[-1])
     if not head:
         return module
-    owner = head["type"].rpartition("::")[2] + (head["of"] or "").rpartition("::")[2]
-    return "::".join(part for part in (module, owner, name) if part)
+    return head["type"].rpartition("::")[2] + (head["of"] or "").rpartition("::")[2] + "::" + name
 
 
 def unique_names(texts):

@@ -209,7 +209,7 @@ def proves_all(tree):
     after = [it.split() for it in calls[calls.index("rt ci") + 1 :]]
     scripts = ("checking", "conditions", "live_sessions", "must_fail", "notation", "programs", "version4")
     expect(sorted(it[0] for it in after), [f"checks/{name}.py" for name in scripts], after)
-    copy = next(it[1] for it in after if it[0] == "checks/must_fail.py")
+    copy = next(it[-1] for it in after if it[0] == "checks/must_fail.py")
     expect([it[1:] for it in after if "--proved" in it], [["--proved", f"{copy}/crates/hipac/out/hipac"]],
            "the check of the proved program")
     expect(text_of(os.path.join(tree.notes, "edits")), "", "the edits that rt ci finds")

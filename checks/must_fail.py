@@ -1,22 +1,24 @@
 #!/usr/bin/env python3
 """Tries the edits of crates/NAME/must-fail: the prover must refuse each of them.
 
-    checks/must_fail.py FOLDER [NAME ..]
+    checks/must_fail.py [--minutes N] FOLDER [NAME ..]
 
 FOLDER is a copy of this repository in which `rt ci` has proved all crates. Its libraries are used as they are. The
 edits of a crate that change different functions are tried in one check, which looks at these functions and at those
 that they call, and at nothing else: each function is proved against the contracts of the others. An edit is refused if
 the prover complains of the function that it changes. What that doesn't show to be refused is then tried alone, in a
-check of the modules that it changes, and at last in one of the whole crate. An edit of a definition is tried alone, in
-a check of the whole crate.
+check of the whole crate, as is an edit of a definition.
 
 An edit isn't counted as refused if the prover complains only of a proof that names what the edit took away, or of a
 search that ended at a limit, or if it can't read the edit: then no contract was shown to fail. As many crates are tried
-side by side as there are processors. The last line is 'N passed, M failed': an edit has failed if the crate is still
-proved with it.
+side by side as there are processors, quick ones first. With --minutes no check begins after so many minutes, and the
+edits that are left are told. The last line is 'N passed, M failed': an edit has failed if the crate is still proved
+with it.
 """
 
+import argparse
 import concurrent.futures
+import math
 import os
 import shutil
 import subprocess
@@ -24,9 +26,12 @@ import sys
 import tempfile
 import time
 
-from edited_functions import body_of, module_of, texts_with, together, unique_names
+from edited_functions import body_of, texts_with, together, unique_names
 from harness import repo
-from more_edits import BAD, PROVED, REFUSED, came_to, edited, refused_of, text_of, with_their_ends
+from more_edits import BAD, NOT_TRIED, PROVED, REFUSED, came_to, edited, refused_of, text_of, with_their_ends
+
+# The status of a check that is asked for a function that isn't there, or for a name that several have.
+NO_SUCH_PLACE = 2
 
 PROCESSORS = len(os.sched_getaffinity(0))
 
@@ -34,8 +39,13 @@ PROCESSORS = len(os.sched_getaffinity(0))
 class Proved:
     """The crates of a folder in which `rt ci` has built the libraries."""
 
-    def __init__(self, folder):
+    def __init__(self, folder, minutes=math.inf):
         self.top, self.kit, self.known = folder, repo.toolchain(), repo.crates(folder)
+        self.end = time.monotonic() + 60 * minutes
+
+    def has_time(self):
+        """Whether a check may begin."""
+        return time.monotonic() < self.end
 
     def rlib(self, name):
         return os.path.join(self.top, "crates", name, "out", "rlib", f"{name}.rlib")
@@ -99,20 +109,18 @@ class Tries:
         """Tries edits of different functions in one check of these. The result is the paths of those that it doesn't
         show to be refused."""
         texts = texts_with(group, self.text)
-        refused = refused_of(group, *self.proved.check(self.crate, texts, [body.place for body in group]), texts) or {}
+        status, lines = self.proved.check(self.crate, texts, [body.place for body in group])
+        if status == NO_SUCH_PLACE:
+            status, lines = self.proved.check(self.crate, texts, [])
+        refused = refused_of(group, status, lines, texts) or {}
         for path, shown in refused.items():
             self.found[path] = REFUSED, shown
         return [body.path for body in group if body.path not in refused]
 
     def one(self, path):
-        """Tries an edit alone: the modules that it changes and, where that shows nothing, the whole crate."""
+        """Tries an edit alone, in a check of the whole crate."""
         texts, why = edited(self.crate, path)
-        self.found[path] = BAD, why
-        modules = [module_of(file) for file in texts or []]
-        for only in [modules] * all(modules) + [[]] if texts else []:
-            self.found[path] = came_to(*self.proved.check(self.crate, texts, only), texts)
-            if self.found[path][0] == REFUSED:
-                return
+        self.found[path] = came_to(*self.proved.check(self.crate, texts, []), texts) if texts else (BAD, why)
 
     def run(self):
         """Tries all edits of the crate that the gate tries."""
@@ -120,9 +128,12 @@ class Tries:
         bodies = [body for body in map(self.body, paths) if body]
         left = [path for path in paths if path not in {body.path for body in bodies}]
         for group in together(bodies):
-            left += self.group(group)
+            left += self.group(group) if self.proved.has_time() else [body.path for body in group]
         for path in left:
-            self.one(path)
+            if self.proved.has_time():
+                self.one(path)
+            else:
+                self.found[path] = NOT_TRIED, "there was no time left"
         self.seconds = time.monotonic() - begun
         return self
 
@@ -137,16 +148,22 @@ def tell(tries):
     return kinds.count(REFUSED), kinds.count(PROVED)
 
 
-def main(words):
-    if not words or not os.path.isdir(words[0]) or set(words[1:]) - set(repo.crates()):
-        print(__doc__.strip(), file=sys.stderr)
-        return 2
-    proved = Proved(os.path.abspath(words[0]))
-    crates = words[1:] or [name for name in proved.known if repo.edits(name, repo.GATE_EDITS)]
+def words_of_command():
+    """The words of the command line."""
+    parser = argparse.ArgumentParser(description=__doc__, formatter_class=argparse.RawDescriptionHelpFormatter)
+    parser.add_argument("folder", metavar="FOLDER")
+    parser.add_argument("crates", nargs="*", metavar="NAME", choices=[*repo.crates(), []])
+    parser.add_argument("--minutes", type=float, default=math.inf, metavar="N")
+    return parser.parse_args()
+
+
+def main():
+    words = words_of_command()
+    proved = Proved(os.path.abspath(words.folder), words.minutes)
+    crates = words.crates or [name for name in proved.known if repo.edits(name, repo.GATE_EDITS)]
     passed, failed = 0, 0
     with concurrent.futures.ThreadPoolExecutor(PROCESSORS) as pool:
-        # (those that take longest first)
-        running = [pool.submit(Tries(proved, crate).run) for crate in sorted(crates, key=repo.cost_of, reverse=True)]
+        running = [pool.submit(Tries(proved, crate).run) for crate in sorted(crates, key=repo.cost_of)]
         for one in concurrent.futures.as_completed(running):
             refused, others = tell(one.result())
             passed, failed = passed + refused, failed + others
@@ -155,4 +172,4 @@ def main(words):
 
 
 if __name__ == "__main__":
-    sys.exit(main(sys.argv[1:]))
+    sys.exit(main())
