@@ -38,6 +38,7 @@ class Body:
             return self.first <= line <= self.last
         folder, _, _ = file.rpartition("/")
         is_near = folder.startswith("proofs/" if self.is_unique else self.proofs)
+        is_near = is_near or f"{folder}/".endswith(f"/{self.place.replace('::', '/')}/")
         whose = os.path.basename(folder)
         is_of_cycle = whose.startswith("+") and re.search(rf"`(?:\S*::)?{self.name}-", said)
         return is_near and (whose.removeprefix("+") == self.name or bool(is_of_cycle))
