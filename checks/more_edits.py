@@ -135,6 +135,16 @@ def edited(crate, path):
     return (None, "it changes nothing") if after == before else (after, None)
 
 
+def edited_body(crate, path, text, unique):
+    """An edit as a change of one function, if it is one. `text` gives the text of a file of the crate, and `unique` has
+    the names that only one of its functions has."""
+    texts, _ = edited(crate, path)
+    body = body_of(path, {file: text(file) for file in texts}, texts) if texts else None
+    if body:
+        body.is_unique = body.name in unique
+    return body
+
+
 def apply_all(crates):
     """Prints for each edit of both folders that does not apply why it doesn't. Returns how many apply, and how many
     don't."""
@@ -496,11 +506,7 @@ class Tries:
 
     def body(self, path):
         """The edit as a change of one function, if it is one."""
-        texts, _ = edited(self.crate, path)
-        body = body_of(path, {file: self.here.text(file) for file in texts}, texts) if texts else None
-        if body:
-            body.is_unique = body.name in self.unique
-        return body
+        return edited_body(self.crate, path, self.here.text, self.unique)
 
 
 def try_edits(here, paths, count):

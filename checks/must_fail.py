@@ -26,9 +26,10 @@ import sys
 import tempfile
 import time
 
-from edited_functions import body_of, texts_with, together, unique_names
+from edited_functions import texts_with, together, unique_names
 from harness import repo
-from more_edits import BAD, NOT_TRIED, PROVED, REFUSED, came_to, edited, refused_of, text_of, with_their_ends
+from more_edits import BAD, NOT_TRIED, PROVED, REFUSED
+from more_edits import came_to, edited, edited_body, refused_of, text_of, with_their_ends
 
 # The status of a check that is asked for a function that isn't there, or for a name that several have.
 NO_SUCH_PLACE = 2
@@ -99,11 +100,7 @@ class Tries:
 
     def body(self, path):
         """The edit as a change of one function, if it is one."""
-        texts, _ = edited(self.crate, path)
-        body = body_of(path, {file: self.text(file) for file in texts}, texts) if texts else None
-        if body:
-            body.is_unique = body.name in self.unique
-        return body
+        return edited_body(self.crate, path, self.text, self.unique)
 
     def group(self, group):
         """Tries edits of different functions in one check of these. The result is the paths of those that it doesn't
