@@ -1,5 +1,5 @@
 -- Ranges of keys, and predicates that are true exactly of the rows with the keys in one.
-use Rattle.std.specs.Prelude.{◌≡◌, ℤ, Bool, true, not, ◌&&◌, List, [], ◌∷◌, filter, Option, Some, None, option_map, Ok, int_lt}
+use Rattle.std.specs.Prelude.{◌≡◌, ℤ, Bool, true, not, ◌&&◌, List, ◌∷◌, filter, Option, Some, None, option_map, Ok, int_lt}
 use Rattle.std.specs.List.{last_or}
 use Rattle.hp_model.specs.Values.{Name, integer, KeyedRow}
 use Rattle.hp_model.specs.Expressions.{Expression, Comparison, compare, Environment, bound}

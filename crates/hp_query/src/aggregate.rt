@@ -5,7 +5,7 @@ ghost use Rattle.hp_model.specs.Values.{KeyedRow};
 ghost use Rattle.hp_model.specs.State.{Objects, rows_of};
 ghost use Rattle.hp_model.specs.Conditions as model;
 ghost use Rattle.hp_value.specs.Mapped.{Meets, environment, expression, value, outcome};
-ghost use Rattle.hp_query.specs.Looks.{ObjectsRise, AsksEach, aggregate_classes};
+ghost use Rattle.hp_query.specs.Looks.{ObjectsRise, AsksEach, AsksAlone, aggregate_classes};
 ghost use Rattle.hp_query.specs.Mapped as mapped;
 
 use crate::by_end::is_key_in_range;
@@ -118,6 +118,7 @@ pub fn aggregated<L: Look>(
 ) -> Result<Option<Value>, Halt>
     ensures goes_on { L.goes_on look.old look.new }
     ensures asks { AsksEach L.asks (aggregate_classes (mapped.aggregate aggregate.now)) look.old look.new }
+    ensures alone { AsksAlone L.asks_count L.asks_greatest (mapped.aggregate aggregate.now) look.old look.new }
     ensures narrows { (world : Objects) → L.allows look.new world → L.allows look.old world }
     ensures value { (world : Objects) → ObjectsRise world → L.allows look.new world
         → Meets (option_map value) result
@@ -159,6 +160,7 @@ pub fn let_value<L: Look>(
 ) -> Result<Value, Halt>
     ensures goes_on { L.goes_on look.old look.new }
     ensures asks { AsksEach L.asks (aggregate_classes (mapped.aggregate aggregate.now)) look.old look.new }
+    ensures alone { AsksAlone L.asks_count L.asks_greatest (mapped.aggregate aggregate.now) look.old look.new }
     ensures narrows { (world : Objects) → L.allows look.new world → L.allows look.old world }
     ensures value { (world : Objects) → ObjectsRise world → L.allows look.new world
         → Meets value result (model.let_of world (environment env.now) (mapped.aggregate aggregate.now)) }

@@ -1,6 +1,6 @@
 //! What a query reads.
 
-ghost use Rattle.std.specs.Prelude.{◌≡◌, ℕ, ℤ, length, Ok, None, IfOk, IfSome};
+ghost use Rattle.std.specs.Prelude.{◌≡◌, ℕ, ℤ, ⊤, length, Ok, None, IfOk, IfSome};
 ghost use Rattle.std.specs.List.{last_or};
 ghost use Rattle.hp_model.specs.State.{Objects, find_object, rows_of, class_keys};
 ghost use Rattle.hp_model.specs.ClassParts as parts;
@@ -36,6 +36,14 @@ pub trait Look {
     // what a question about a part of a class may do to the look; for a view: it reads that part alone
     ghost asks_part: { ℕ → parts.ClassPart → Self → Self → Type 0 };
 
+    // what the question how many objects a class has may do to the look, which is anything if the look doesn't say; for
+    // a view: it reads this number, or the keys
+    ghost asks_count: { ℕ → Self → Self → Type 0 } = { λ class before after. ⊤ };
+
+    // what the question for a class's greatest key may do to the look, likewise; for a view: it reads this key, or the
+    // keys
+    ghost asks_greatest: { ℕ → Self → Self → Type 0 } = { λ class before after. ⊤ };
+
     /// The row of the object with this key in this class, or `None` if there is no such object.
     fn row(&mut self, alloc: Global, class: ClassNo, key: Key) -> Result<Option<Row>, AllocError>
         ensures goes_on { goes_on self.old self.new }
@@ -55,6 +63,7 @@ pub trait Look {
     fn count(&mut self, alloc: Global, class: ClassNo) -> Result<usize, AllocError>
         ensures goes_on { goes_on self.old self.new }
         ensures asks { asks class self.old self.new }
+        ensures asks_count { asks_count class self.old self.new }
         ensures counted { IfOk result (λ n. (world : Objects) →
             ObjectsRise world → allows self.new world → n ≡ length (class_keys class world)) };
 
@@ -62,6 +71,7 @@ pub trait Look {
     fn greatest_key(&mut self, alloc: Global, class: ClassNo) -> Result<Option<Key>, AllocError>
         ensures goes_on { goes_on self.old self.new }
         ensures asks { asks class self.old self.new }
+        ensures asks_greatest { asks_greatest class self.old self.new }
         ensures found { IfOk result (λ found. (world : Objects) →
             ObjectsRise world → allows self.new world → found ≡ last_or None (class_keys class world)) };
 

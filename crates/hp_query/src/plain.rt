@@ -107,6 +107,10 @@ impl Look for PlainObjects {
 
     ghost asks_part = { λ class part before after. after ≡ before };
 
+    ghost asks_count = { λ class before after. after ≡ before };
+
+    ghost asks_greatest = { λ class before after. after ≡ before };
+
     ghost goes_on_same = { λ look. refl };
 
     ghost goes_on_then = { λ first second third one two. two ∙ one };

@@ -11,6 +11,7 @@ ghost use Rattle.hp_value.specs.Mapped.{Meets, keyed_row, environment, expressio
 ghost use Rattle.hp_query.specs.ByKey.{first_test, key_asked, key_equated};
 ghost use Rattle.hp_query.specs.Candidates.{counted};
 ghost use Rattle.hp_query.specs.Looks.{ObjectsRise};
+ghost use Rattle.hp_query.specs.Looks as looks;
 ghost use Rattle.hp_query.specs.Mapped as mapped;
 ghost use Rattle.hp_query.specs.Parts.{field_asked};
 ghost use Rattle.hp_query.specs.Mapped.{keyed_rows};
@@ -127,6 +128,8 @@ pub(crate) fn count_answer<L: Look>(
 ) -> Result<usize, Halt>
     ensures goes_on { L.goes_on look.old look.new }
     ensures asks { L.asks query.now.class look.old look.new }
+    ensures asks_count { looks.is_always_true (mapped.query query.now).predicate ≡ true
+        → L.asks_count query.now.class look.old look.new }
     ensures narrows { (world : Objects) → L.allows look.new world → L.allows look.old world }
     ensures count { let asked = mapped.query query.now in
         (world : Objects) → ObjectsRise world → L.allows look.new world
@@ -146,7 +149,8 @@ pub(crate) fn count_answer<L: Look>(
 
 /// Whether a predicate is the constant `true`.
 pub(crate) fn is_always_true(predicate: &Expr) -> bool
-    ensures { IsTrue result → expression predicate.now ≡ constant (boolean true) }
+    ensures test { result ≡ looks.is_always_true (expression predicate.now) }
+    ensures told { IsTrue result → expression predicate.now ≡ constant (boolean true) }
 {
     match predicate {
         Expr::Constant(constant) => matches!(constant.value(), Value::Bool(true)),

@@ -1,7 +1,7 @@
 -- The number of a class's objects: there is one of it, and what a change of a cell makes of it.
 use Rattle.std.proofs.Common.{◌≡◌, refl, ap, ap₂, sym, ◌∙◌, subst, ℕ, suc, ◌+◌, ◌-◌, ◌≤◌, ℤ, Bool, true, false, true≢false, ◌&&◌, ◌||◌, cond, List, [], ◌∷◌, ◌++◌, map, length}
 use Rattle.std.proofs.Common.{Option, Some, None, is_some, int_eq, Result, Ok, Err, arith}
-use Rattle.std.specs.Prelude.{◌==◌, filter, IfOk, if◌then◌else◌}
+use Rattle.std.specs.Prelude.{◌==◌, ◌^◌, filter, IfOk, OnErr, if◌then◌else◌}
 use Rattle.std.specs.declared.cmp.Ordering.{Ordering}
 use Rattle.std.specs.declared.cmp.Ordering.TheVariants.{Less, Equal, Greater}
 use Rattle.std.specs.Ordering.{is_eq, is_lt, is_gt, int_cmp}
@@ -18,7 +18,7 @@ use Rattle.hp_store.specs.declared.value.CellValue.{CellValue as Held}
 use Rattle.hp_store.specs.Mapped.{change, entry}
 use Rattle.hp_store.proofs.Entered.{Kept}
 use Rattle.hp_store.specs.Changes.{Entries, changes, is_of_class, class_entries}
-use Rattle.hp_store.specs.Counts.{one_if}
+use Rattle.hp_store.specs.Counts.{one_if, IsUncountable}
 use Rattle.hp_store.specs.Indexed.{with_value}
 use Rattle.hp_store.specs.Keys.{below, above, kept, merged, AboveKeys, KeysRise}
 use Rattle.hp_store.proofs.Cells.{int_at}
@@ -327,3 +327,7 @@ count_over_same {base} {other} {class} {n} {total} es agree p q is =
 pub sized_count : {E : Type 0} {base : Cells} {class number : ℕ} (r : Result ℕ E) → IfOk r (λ count. count ≡ number) → IsCount base class number → IfOk r (IsCount base class)
 sized_count {E} {base} {class} (Ok count) is p = subst (IsCount base class) (sym is) p
 sized_count (Err e) is p = tt
+
+pub sized_err : {E : Type 0} {base : Cells} {class number : ℕ} (r : Result ℕ E) → OnErr r (2 ^ 64 ≤ number) → IsCount base class number → OnErr r (IsUncountable base class)
+sized_err (Ok count) many p = tt
+sized_err {E} {base} {class} {number} (Err e) many p = record { number = number; counted = p; many = many }

@@ -1,10 +1,10 @@
 //! The number of a class's objects.
 
-ghost use Rattle.std.specs.Prelude.{◌≡◌, ◌≤◌, ◌<◌, ◌+◌, ◌-◌, ◌*◌, ◌^◌, ◌↔◌, IsTrue, IfOk, is_some, length};
+ghost use Rattle.std.specs.Prelude.{◌≡◌, ◌≤◌, ◌<◌, ◌+◌, ◌-◌, ◌*◌, ◌^◌, ◌↔◌, IsTrue, IfOk, OnErr, is_some, length};
 ghost use Rattle.hp_model.specs.Cells.{IsCount, over};
 ghost use Rattle.hp_value.specs.Mapped as mapped;
 ghost use Rattle.hp_store.specs.Changes.{changes, changes_in};
-ghost use Rattle.hp_store.specs.Counts.{one_if};
+ghost use Rattle.hp_store.specs.Counts.{one_if, IsUncountable};
 ghost use Rattle.hp_store.specs.Stack.{cells_in};
 ghost use Rattle.hp_store.specs.Tables.{base_cells};
 
@@ -21,15 +21,17 @@ impl Snapshot {
     /// The time goes with the layers' changes of the class's objects, and not with the class. An error means that there
     /// are more objects than a `usize` counts, which no memory holds.
     pub fn count(&self, class: ClassNo) -> Result<usize, AllocError>
-        ensures { IfOk result (IsCount (cells_in self.now) class) }
+        ensures count { IfOk result (IsCount (cells_in self.now) class) }
+        ensures err { OnErr result (IsUncountable (cells_in self.now) class) }
     {
         sized(counted(&self.base, &self.layers, class))
     }
 
-    /// The number of a class's objects once a layer has been written over the cells. The time goes with the layer's
-    /// changes of the class's objects, too.
+    /// The number of a class's objects once a layer has been written over the cells. It allocates nothing, and an error
+    /// means what it means for `count`. The time goes with the layer's changes of the class's objects, too.
     pub fn count_over(&self, writes: &Layer, class: ClassNo) -> Result<usize, AllocError>
-        ensures { IfOk result (IsCount (over (cells_in self.now) (changes writes.now)) class) }
+        ensures count { IfOk result (IsCount (over (cells_in self.now) (changes writes.now)) class) }
+        ensures err { OnErr result (IsUncountable (over (cells_in self.now) (changes writes.now)) class) }
     {
         sized(self.number_over(writes, class))
     }
@@ -53,7 +55,8 @@ impl Snapshot {
 
 // A number of objects, if a `usize` counts them.
 fn sized(number: u128) -> Result<usize, AllocError>
-    ensures { IfOk result (λ count. count ≡ number) }
+    ensures count { IfOk result (λ count. count ≡ number) }
+    ensures err { OnErr result (2 ^ 64 ≤ number) }
 {
     match usize::try_from(number) {
         Ok(count) => Ok(count),

@@ -1,6 +1,6 @@
 -- The number of a class's objects: what it is wherever the reads hold.
 use Rattle.std.proofs.Common.{◌≡◌, refl, sym, ap, ap₂, ◌∙◌, subst, ℕ, ℤ, Bool, true, false, true≢false, ◌&&◌, ◌||◌, ◌==◌, cond, List, [], ◌∷◌, ◌++◌, length, Option, Some, None}
-use Rattle.std.proofs.Common.{inl, is_some, if◌then◌else◌}
+use Rattle.std.proofs.Common.{inl, inr, is_some, if◌then◌else◌}
 use Rattle.std.specs.List.{list_any}
 use Rattle.std.proofs.lemmas.Bool.Decides.{Decides-eqb, Decides-int_eq}
 use Rattle.hp_model.specs.Cells.{Cell, object_cell, rule_cell, detector_cell, CellValue, Cells, Changes, changed, over, same_cell, Read, cell_read, keys_read, greatest_read}
@@ -9,6 +9,7 @@ use Rattle.hp_model.proofs.BridgesCells.{exact_cell, Holds-front, Holds-last}
 use Rattle.hp_store.specs.Changes.{Entries, changes, is_of_class, class_entries}
 use Rattle.hp_store.proofs.Counted.{one_count, same_count, count_over_same}
 use Rattle.hp_view.specs.Counts.{all_read}
+use Rattle.hp_view.specs.Known.{KnowsCount}
 use Rattle.hp_view.specs.Seeing.{Seeing, beneath, written, now_in, reads_cell, reads_count, keys_were_read, count_was_read, noted, OnlyReads, ReadsKeys, WritesUnread, ReadsCount, ShowsCount}
 use Rattle.hp_view.proofs.Reading.{itself_again, keys_again, keys_noted, noted-again, noted-more, noted_only, noted_held}
 
@@ -182,3 +183,9 @@ noted_count {v} {old} class under reads from held there no_keys all noting = rec
   where
     before : (base : Cells) → Holds base reads → Holds base v.reads
     before base here = let more = noted-more v.reads (count_read class under) in Holds-front base v.reads more.0 (subst (Holds base) (noting ∙ more.1) here)
+
+-- what is known where the keys weren't read
+pub count_alone : {v old : Seeing} (class : ℕ) → v ≡ old → keys_were_read v.reads class ≡ false → KnowsCount old class
+    → (count_was_read old.reads class ≡ true) × (WritesUnread old class → ⊥)
+count_alone {v} {old} class from none known =
+    elim known.how [ inl keys ↦ absurd (true≢false (sym keys ∙ sym (ap (λ (u : Seeing). keys_were_read u.reads class) from) ∙ none)) | inr alone ↦ alone ]

@@ -1,5 +1,5 @@
 -- The greatest key of a class: there is one of them, and what it is wherever the reads hold.
-use Rattle.std.proofs.Common.{◌≡◌, refl, sym, ap, ◌∙◌, subst, ℕ, ℤ, Bool, true, false, true≢false, ◌||◌, ◌==◌, cond, List, [], ◌∷◌, ◌++◌, Option, Some, None, Result, Ok, Err, inl}
+use Rattle.std.proofs.Common.{◌≡◌, refl, sym, ap, ◌∙◌, subst, ℕ, ℤ, Bool, true, false, true≢false, ◌||◌, ◌==◌, cond, List, [], ◌∷◌, ◌++◌, Option, Some, None, Result, Ok, Err, inl, inr}
 use Rattle.std.proofs.Common.{is_some, int_eq, int_lt}
 use Rattle.std.specs.Prelude.{MatchOption, OnOk, if◌then◌else◌}
 use Rattle.std.specs.declared.cmp.Ordering.TheVariants.{Less, Equal, Greater}
@@ -12,6 +12,7 @@ use Rattle.std.proofs.lemmas.Map.Lookups.{exact_signed}
 use Rattle.hp_model.specs.Cells.{CellValue, Cells, Changes, object_cell, changed, over, is_above, is_there, Read, cell_read, keys_read, greatest_read, count_read, objects_read}
 use Rattle.hp_model.specs.Cells.{part_read, ReadsHold, Holds, AreKeys, IsGreatestKey}
 use Rattle.hp_model.proofs.BridgesCells.{Holds-last}
+use Rattle.hp_view.specs.Known.{KnowsGreatest}
 use Rattle.hp_view.specs.Seeing.{Seeing, beneath, written, now_in, reads_greatest, keys_were_read, greatest_was_read, noted, OnlyReads, ReadsKeys, DeletesGreatest, ReadsGreatest, ShowsGreatest}
 use Rattle.hp_view.proofs.Reading.{keys_again, keys_noted, noted-again, noted_only, noted_held}
 use Rattle.hp_view.proofs.SameClass.{both_none}
@@ -279,3 +280,9 @@ noted_greatest {v} {old} class under greatest reads from held there is up no_key
   };
   only = noted_only (greatest_read class under) reads from noting;
 }
+
+-- what is known where the keys weren't read
+pub greatest_alone : {v old : Seeing} (class : ℕ) → v ≡ old → keys_were_read v.reads class ≡ false → KnowsGreatest old class
+    → (greatest_was_read old.reads class ≡ true) × (DeletesGreatest old class → ⊥)
+greatest_alone {v} {old} class from none known =
+    elim known.how [ inl keys ↦ absurd (true≢false (sym keys ∙ sym (ap (λ (u : Seeing). keys_were_read u.reads class) from) ∙ none)) | inr alone ↦ alone ]

@@ -1,7 +1,9 @@
 pub mod Adding
+pub mod Asking
 pub mod Codes
 pub mod Counts
 pub mod Keeping
+pub mod Known
 pub mod Looks
 pub mod Mapped
 pub mod Numbered

@@ -11,6 +11,7 @@ impl Look for View {
     ghost use Rattle.hp_view.specs.Seeing.{OnlyReads};
     ghost use Rattle.hp_view.specs.Looks.{Allows, only_reads_same, only_reads_then, reads_narrow};
     ghost use Rattle.hp_view.specs.Looks.{AsksOf, AsksRow, AsksPart, asks_same, asks_then, asks_row_same};
+    ghost use Rattle.hp_view.specs.Asking.{AsksCount, AsksGreatest};
 
     // the objects of the cells where the view's reads hold, under the view's writes
     ghost allows = { Allows };
@@ -25,6 +26,12 @@ impl Look for View {
 
     // of the part alone
     ghost asks_part = { AsksPart };
+
+    // of the number, or where the view's own writes name an object that wasn't read, of the keys
+    ghost asks_count = { AsksCount };
+
+    // of the greatest key, or where the view's own writes delete that object, of the keys
+    ghost asks_greatest = { AsksGreatest };
 
     ghost goes_on_same = { only_reads_same };
 

@@ -1,7 +1,7 @@
 //! A view: a snapshot, what was read of it, and what is written over it.
 
 ghost use Rattle.std.specs.Prelude.{◌≡◌, ◌↔◌, ℕ, ℤ, List, All, Option, ◌≤◌, [], true, false, length, take, map};
-ghost use Rattle.std.specs.Prelude.{None, Some};
+ghost use Rattle.std.specs.Prelude.{None, Some, ◌⊎◌};
 ghost use Rattle.std.specs.Prelude.{is_some, MatchOption, IsTrue, IsOk, IsSome, IfOk, IfSome, IfNone, OnOk};
 ghost use Rattle.std.specs.Prelude.{OnErr, option_map};
 ghost use Rattle.std.specs.List.{list_all};
@@ -10,12 +10,14 @@ ghost use Rattle.hp_model.specs.Cells.{Cells, AreKeys, IsGreatestKey, IsCount, A
 ghost use Rattle.hp_model.specs.Cells.{objects_read, over, is_above};
 ghost use Rattle.hp_value.specs.Mapped as mapped;
 ghost use Rattle.hp_store.specs.Changes.{class_entries};
+ghost use Rattle.hp_store.specs.Counts.{IsUncountable};
 ghost use Rattle.hp_store.specs.Mapped.{cell_value};
 ghost use Rattle.hp_store.specs.Kept.{HoldsOther};
 ghost use Rattle.hp_store.specs.Parts.{is_of_keys, no_cells};
 ghost use Rattle.hp_store.specs.Stack.{cells_in};
 ghost use Rattle.hp_view.specs.Adding.{AddsReads, IsOfClass};
 ghost use Rattle.hp_view.specs.Keeping.{KeepsObject};
+ghost use Rattle.hp_view.specs.Known.{KnowsGreatest, KnowsCount};
 ghost use Rattle.hp_view.specs.Counts.{all_read};
 ghost use Rattle.hp_view.specs.Seeing.{Seeing as Seen, beneath, written, now_in, noted, read_cell, row_was_read};
 ghost use Rattle.hp_view.specs.Seeing.{cell_was_read, keys_were_read, Writes, TakesIn, IsSame, GoesBack, GoesOn};
@@ -298,11 +300,12 @@ impl View {
     /// Reads the greatest key of a class, which is then the one that `has_greatest_key` takes.
     ///
     /// It is recorded as it stands beneath the view's own writes, unless it or the class's keys were read before: then
-    /// it takes no memory. Where the writes delete the object with that key, the keys are read. An error means that
-    /// memory ran out; the view is then as before.
+    /// it takes no memory. Where the writes delete the object with that key, the keys are read: that takes memory unless
+    /// they were read before. An error means that memory ran out; the view is then as before.
     pub fn read_greatest_key(&mut self, alloc: Global, class: ClassNo) -> Result<(), AllocError>
         ensures reads { OnOk result (ReadsGreatest self.old self.new class) }
         ensures err { OnErr result (self.new ≡ self.old) }
+        ensures again { KnowsGreatest self.old class → IsOk result }
         ensures shows { OnOk result ((greatest : Option ℤ) → IsGreatestKey (now_in self.old) class greatest →
             ShowsGreatest self.new class greatest) }
         ensures only { OnlyReads self.old self.new }
@@ -320,6 +323,7 @@ impl View {
     pub fn greatest_key(&mut self, alloc: Global, class: ClassNo) -> Result<Option<Key>, AllocError>
         ensures reads { OnOk result (ReadsGreatest self.old self.new class) }
         ensures err { OnErr result (self.new ≡ self.old) }
+        ensures again { KnowsGreatest self.old class → IsOk result }
         ensures shows { IfOk result (λ greatest. ShowsGreatest self.new class greatest) }
         ensures only { OnlyReads self.old self.new }
         ensures goes_on { GoesOn self.old self.new }
@@ -340,6 +344,7 @@ impl View {
         requires { IsGreatestKey (now_in self.old) class greatest }
         ensures reads { OnOk result (ReadsGreatest self.old self.new class) }
         ensures err { OnErr result (self.new ≡ self.old) }
+        ensures again { KnowsGreatest self.old class → IsOk result }
         ensures shows { OnOk result (ShowsGreatest self.new class greatest) }
         ensures only { OnlyReads self.old self.new }
         ensures goes_on { GoesOn self.old self.new }
@@ -369,11 +374,13 @@ impl View {
     /// Reads the number of a class's objects, which is then the one that `has_count` takes.
     ///
     /// It is recorded as it stands beneath the view's own writes, unless it or the class's keys were read before: then
-    /// it takes no memory. Where the writes name an object whose cell wasn't read by itself, the keys are read. An
-    /// error means that memory ran out; the view is then as before.
+    /// it takes no memory. Where the writes name an object whose cell wasn't read by itself, the keys are read: that
+    /// takes memory unless they were read before. An error means that memory ran out, or that there are more objects
+    /// than a `usize` counts, which no memory holds; the view is then as before.
     pub fn read_class_count(&mut self, alloc: Global, class: ClassNo) -> Result<(), AllocError>
         ensures reads { OnOk result (ReadsCount self.old self.new class) }
         ensures err { OnErr result (self.new ≡ self.old) }
+        ensures again { KnowsCount self.old class → OnErr result (IsUncountable (beneath self.old) class) }
         ensures shows { OnOk result ((count : ℕ) → IsCount (now_in self.old) class count →
             ShowsCount self.new class count) }
         ensures only { OnlyReads self.old self.new }
@@ -394,11 +401,13 @@ impl View {
     /// The number of a class's objects.
     ///
     /// It is read as `read_class_count` reads it. The time goes with the changes of the class's objects in the view's
-    /// own writes and in the snapshot's layers, and not with the class. An error means that memory ran out; the view is
+    /// own writes and in the snapshot's layers, and not with the class. An error means what it means there; the view is
     /// then as before.
     pub fn count(&mut self, alloc: Global, class: ClassNo) -> Result<usize, AllocError>
         ensures reads { OnOk result (ReadsCount self.old self.new class) }
         ensures err { OnErr result (self.new ≡ self.old) }
+        ensures again { KnowsCount self.old class →
+            OnErr result (IsUncountable (beneath self.old) class ⊎ IsUncountable (now_in self.old) class) }
         ensures shows { IfOk result (ShowsCount self.new class) }
         ensures only { OnlyReads self.old self.new }
         ensures goes_on { GoesOn self.old self.new }

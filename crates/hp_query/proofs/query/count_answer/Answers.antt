@@ -1,11 +1,13 @@
-use Rattle.std.proofs.Common.{◌≡◌, ℕ, true, Ok, subst, sym, ap, ◌∙◌, length, string_bytes}
+use Rattle.std.proofs.Common.{◌≡◌, ℕ, true, true≢false, Ok, subst, sym, ap, ◌∙◌, length, string_bytes}
 use Rattle.std.proofs.lemmas.List.{length-map}
 use Rattle.hp_model.specs.State.{rows_of}
 use Rattle.hp_model.specs.Conditions as model
 use Rattle.hp_value.specs.Mapped.{Meets, environment, expression, keyed_row}
 use Rattle.hp_model.specs.Expressions.{constant}
 use Rattle.hp_model.specs.Values.{boolean}
+use Rattle.hp_value.specs.declared.expr.Expr.{Expr}
 use Rattle.hp_query.specs.Candidates.{counted}
+use Rattle.hp_query.specs.Looks.{is_always_true}
 use Rattle.hp_query.proofs.CandidateLemmas.{selected_of, all_selected_of, all_counted}
 use Rattle.hp_query.proofs.query.count_answer.Goals as goal
 
@@ -13,7 +15,7 @@ pub returns-then-is_always_true-clause-count : goal.returns-then-is_always_true-
 returns-then-is_always_true-clause-count g c = λ world rise allowed.
     let query = c.args.query.now in
     let env = environment c.args.env.now in
-    let is : expression query.predicate.value ≡ constant (boolean true) = ap expression (sym c.deref.ensures) ∙ c.is_always_true.ensures c.if-is_always_true.true in
+    let is : expression query.predicate.value ≡ constant (boolean true) = ap expression (sym c.deref.ensures) ∙ c.is_always_true.ensures.told c.if-is_always_true.true in
     ap Ok (c.in_ok-count.ensures.counted world rise allowed)
     ∙ sym (ap (λ p. counted (model.selected env (string_bytes query.name) p (rows_of query.class world))) is ∙ all_counted env (string_bytes query.name) query.class world)
 
@@ -39,3 +41,15 @@ returns-clause-count g c = λ world rise allowed.
     (ap (model.selected env asked.name.now predicate) c.rows-2.ensures ∙ selected_of env asked.name.now predicate (c.in_ok-found.ensures.rows world rise allowed)
     ∙ (λ i. model.selected (is.env i) (is.name i) (is.predicate i) (rows_of (is.class i) world)))
     c.count_selected.ensures
+
+pub returns-in_err-found-clause-asks_count : goal.returns-in_err-found-clause-asks_count
+returns-in_err-found-clause-asks_count g c = λ always.
+    absurd (true≢false (sym always ∙ ap (λ (e : Expr). is_always_true (expression e)) (sym c.deref.ensures) ∙ sym c.is_always_true.ensures.test ∙ c.if-is_always_true.false))
+
+pub returns-then-are_selected-clause-asks_count : goal.returns-then-are_selected-clause-asks_count
+returns-then-are_selected-clause-asks_count g c = λ always.
+    absurd (true≢false (sym always ∙ ap (λ (e : Expr). is_always_true (expression e)) (sym c.deref.ensures) ∙ sym c.is_always_true.ensures.test ∙ c.if-is_always_true.false))
+
+pub returns-clause-asks_count : goal.returns-clause-asks_count
+returns-clause-asks_count g c = λ always.
+    absurd (true≢false (sym always ∙ ap (λ (e : Expr). is_always_true (expression e)) (sym c.deref.ensures) ∙ sym c.is_always_true.ensures.test ∙ c.if-is_always_true.false))

@@ -1,7 +1,8 @@
-use Rattle.std.proofs.Common.{◌∙◌, sym, inr}
+use Rattle.std.proofs.Common.{◌∙◌, sym, ap, inr}
 use Rattle.hp_store.specs.Stack.{cells_in}
+use Rattle.hp_view.specs.Seeing.{Seeing, greatest_was_read}
 use Rattle.hp_view.specs.contracts.view.View.{the_view}
-use Rattle.hp_view.proofs.Greatest.{reads_greatest_again, shows_greatest_again, deletes_greatest, shows_by_keys, held_by_keys, on_ok, NotedGreatest, noted_greatest}
+use Rattle.hp_view.proofs.Greatest.{reads_greatest_again, shows_greatest_again, deletes_greatest, greatest_alone, shows_by_keys, held_by_keys, on_ok, NotedGreatest, noted_greatest}
 use Rattle.hp_view.proofs.Reading.{holds_from, some_told, GoesOn-only}
 use Rattle.hp_view.proofs.view.View.read_greatest.Goals as goal
 
@@ -58,3 +59,15 @@ returns-clause-goes_on c = GoesOn-only (first_greatest c).only
 
 pub returns-clause-reads_held : goal.returns-clause-reads_held
 returns-clause-reads_held c = (first_greatest c).held
+
+pub returns-then-not-is_up_to-clause-again : goal.returns-then-not-is_up_to-clause-again
+returns-then-not-is_up_to-clause-again c = λ known.
+    let unread = sym c.keys.ensures.known ∙ sym c.is_some.ensures ∙ c.if-is_some.false in
+    absurd ((greatest_alone c.args.class c.self.view_is unread known).1
+    (deletes_greatest c.args.class c.greatest_key-beneath.result c.args.greatest c.self.view_is c.greatest_key-beneath.ensures c.requires (c.is_up_to.ensures.above c.if-not-is_up_to.true)))
+
+pub returns-in_err-note_greatest-clause-again : goal.returns-in_err-note_greatest-clause-again
+returns-in_err-note_greatest-clause-again c = λ known.
+    let unread = sym c.keys.ensures.known ∙ sym c.is_some.ensures ∙ c.if-is_some.false in
+    let found = (greatest_alone c.args.class c.self.view_is unread known).0 in
+    absurd (c.in_err-note_greatest.ensures.again (ap (λ (u : Seeing). greatest_was_read u.reads c.args.class) c.self.view_is ∙ found))
