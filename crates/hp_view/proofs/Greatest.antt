@@ -1,7 +1,7 @@
 -- The greatest key of a class: there is one of them, and what it is wherever the reads hold.
 use Rattle.std.proofs.Common.{◌≡◌, refl, sym, ap, ◌∙◌, subst, ℕ, ℤ, Bool, true, false, true≢false, ◌||◌, ◌==◌, cond, List, [], ◌∷◌, ◌++◌, Option, Some, None, Result, Ok, Err, inl, inr}
 use Rattle.std.proofs.Common.{is_some, int_eq, int_lt}
-use Rattle.std.specs.Prelude.{MatchOption, OnOk, if◌then◌else◌}
+use Rattle.std.specs.Prelude.{MatchOption, OnOk, OnErr, if◌then◌else◌}
 use Rattle.std.specs.declared.cmp.Ordering.TheVariants.{Less, Equal, Greater}
 use Rattle.std.specs.Ordering.{int_cmp}
 use Rattle.std.specs.List.{list_any, last_or}
@@ -258,6 +258,10 @@ held_by_keys {v} {old} {new} class from held reads =
 pub on_ok : {A E P Q : Type 0} (r : Result A E) → (P → Q) → OnOk r P → OnOk r Q
 on_ok (Ok x) more told = more told
 on_ok (Err e) more told = tt
+
+pub on_err : {A E P : Type 0} (r : Result A E) → P → OnErr r P
+on_err (Ok x) p = tt
+on_err (Err e) p = p
 
 -- a greatest key that is noted
 pub record NotedGreatest (v old : Seeing) (class : ℕ) (greatest : Option ℤ) (reads : List Read) : Type 0 where

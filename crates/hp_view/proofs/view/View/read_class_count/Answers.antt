@@ -1,4 +1,4 @@
-use Rattle.std.proofs.Common.{◌≡◌, ◌∙◌, sym, ap, inr, subst, true, false}
+use Rattle.std.proofs.Common.{◌≡◌, ◌∙◌, sym, ap, inr, subst, true, false, true≢false}
 use Rattle.hp_store.specs.Stack.{cells_in}
 use Rattle.hp_store.specs.Changes.{class_entries}
 use Rattle.hp_view.specs.Counts.{all_read}
@@ -6,7 +6,7 @@ use Rattle.hp_store.specs.Counts.{IsUncountable}
 use Rattle.hp_view.specs.Seeing.{Seeing, beneath, count_was_read}
 use Rattle.hp_view.specs.contracts.view.View.{the_view}
 use Rattle.hp_view.proofs.Counting.{reads_count_again, shows_count_again, writes_unread, count_by_keys, count_alone, NotedCount, noted_count}
-use Rattle.hp_view.proofs.Greatest.{held_by_keys, on_ok}
+use Rattle.hp_view.proofs.Greatest.{held_by_keys, on_ok, on_err}
 use Rattle.hp_view.proofs.Reading.{holds_from, some_told, GoesOn-only}
 use Rattle.hp_view.proofs.view.View.read_class_count.Goals as goal
 
@@ -74,10 +74,10 @@ returns-then-not-has_read_written-clause-again c = λ known.
     (ap (λ (u : Seeing). all_read u.reads (class_entries c.args.class u.writes)) c.self.view_is ∙ sym c.has_read_written.ensures ∙ c.if-not-has_read_written.true)))
 
 pub returns-in_err-beneath-clause-again : goal.returns-in_err-beneath-clause-again
-returns-in_err-beneath-clause-again c = λ known. subst (λ (u : Seeing). IsUncountable (beneath u) c.args.class) c.self.view_is c.in_err-beneath.ensures.err
+returns-in_err-beneath-clause-again c = λ known. on_err c.from_residual.result (subst (λ (u : Seeing). IsUncountable (beneath u) c.args.class) c.self.view_is c.in_err-beneath.ensures.err)
 
 pub returns-in_err-note_count-clause-again : goal.returns-in_err-note_count-clause-again
 returns-in_err-note_count-clause-again c = λ known.
     let unread = sym c.keys.ensures.known ∙ sym c.is_some.ensures ∙ c.if-is_some.false in
     let counted = (count_alone c.args.class c.self.view_is unread known).0 in
-    absurd (c.in_err-note_count.ensures.again (ap (λ (u : Seeing). count_was_read u.reads c.args.class) c.self.view_is ∙ counted))
+    absurd (true≢false (sym (c.in_err-note_count.ensures.again (ap (λ (u : Seeing). count_was_read u.reads c.args.class) c.self.view_is ∙ counted))))

@@ -1,4 +1,4 @@
-use Rattle.std.proofs.Common.{◌∙◌, sym, ap, inr}
+use Rattle.std.proofs.Common.{◌∙◌, sym, ap, inr, true≢false}
 use Rattle.hp_store.specs.Stack.{cells_in}
 use Rattle.hp_view.specs.Seeing.{Seeing, greatest_was_read}
 use Rattle.hp_view.specs.contracts.view.View.{the_view}
@@ -70,4 +70,4 @@ pub returns-in_err-note_greatest-clause-again : goal.returns-in_err-note_greates
 returns-in_err-note_greatest-clause-again c = λ known.
     let unread = sym c.keys.ensures.known ∙ sym c.is_some.ensures ∙ c.if-is_some.false in
     let found = (greatest_alone c.args.class c.self.view_is unread known).0 in
-    absurd (c.in_err-note_greatest.ensures.again (ap (λ (u : Seeing). greatest_was_read u.reads c.args.class) c.self.view_is ∙ found))
+    absurd (true≢false (sym (c.in_err-note_greatest.ensures.again (ap (λ (u : Seeing). greatest_was_read u.reads c.args.class) c.self.view_is ∙ found))))
