@@ -139,7 +139,7 @@ fn aborting(alloc: Global) -> Result<Vec<Stmt>, AllocError> {
 }
 
 #[test]
-fn an_aborted_sub_leaves_no_write_and_its_separate_tasks(rt: HostRuntime) -> Result<(), Fail> {
+fn aborted_sub_keeps_only_separate_tasks(rt: HostRuntime) -> Result<(), Fail> {
     let alloc = rt.alloc();
     let lib = idle(alloc, Coupling::Dependent, Coupling::Separate);
     let seen = run(&rt, alloc, lib, aborting(alloc), 0)?;

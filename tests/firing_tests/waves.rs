@@ -442,7 +442,7 @@ fn short_siblings_have_workers_too(rt: HostRuntime) -> Result<(), Fail> {
 // One of two threads is held at the first task until the other has tried all others. If the other one is the worker,
 // its channel has no room for all attempts, and yet none is lost.
 #[test]
-fn a_line_without_room_loses_no_attempt(rt: HostRuntime) -> Result<(), Fail> {
+fn full_channel_loses_no_attempt(rt: HostRuntime) -> Result<(), Fail> {
     let alloc = rt.alloc();
     let gate = Hold::of(0, Awaited::End(39));
     let forty = of_the_first(alloc, 40);

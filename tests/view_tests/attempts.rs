@@ -427,7 +427,7 @@ fn a_veto_ends_a_front_where_it_is_to(rt: HostRuntime) -> Result<(), Fail> {
 }
 
 #[test]
-fn a_veto_ends_no_front_where_it_is_not_to(rt: HostRuntime) -> Result<(), Fail> {
+fn veto_ignored_without_stop_at_veto(rt: HostRuntime) -> Result<(), Fail> {
     let (counts, balances) = front(rt.alloc(), &[VETOED, TWO, THREE], false)?;
     assert_eq!(rt; counts, (3, 0, None));
     assert!(rt; balances == [Some(1), Some(2), Some(3)]);

@@ -241,7 +241,7 @@ fn get_after_the_whole(rt: &impl Abort, alloc: Global, view: &mut View) -> Resul
 }
 
 #[test]
-fn what_is_got_of_a_class_read_as_a_whole_is_no_further_read(rt: HostRuntime) -> Result<(), Fail> {
+fn get_after_whole_class_read_records_nothing(rt: HostRuntime) -> Result<(), Fail> {
     let mut view = bank(rt.alloc())?;
     get_after_the_whole(&rt, rt.alloc(), &mut view)?;
     let (reads, _) = view.into_parts();

@@ -59,7 +59,7 @@ class RefusingTest(unittest.TestCase):
             self.assertIsNone(reader.take(line))
         return reader.take(lines[-1])
 
-    def test_lines_that_are_none(self):
+    def test_invalid_lines(self):
         for line in ("", "ok", "ok 1", "ok 01", "ok 0 ", "refused", "refused S7", "refused S2", "refused S1 /",
                      "refused S4 1", "refused S5 big", "unit 2 committed", "unit 1 commited", "unit 1 aborted",
                      "unit 1 aborted A9",
@@ -69,7 +69,7 @@ class RefusingTest(unittest.TestCase):
                      "object item", "final", "end"):
             self.refuse(line)
 
-    def test_lines_that_are_none_below_a_unit(self):
+    def test_invalid_lines_below_a_unit(self):
         for line in ("ok 2", "ok", "refused S1", "immediate r committed", "separate r", "separate 1 committed", "emit",
                      "emit 01", "emit -0", "emit 1.0", "emit True", 'emit "', 'emit "a', 'emit "a" ', 'emit "\\x"',
                      'emit "\\u0041"', 'emit "\\/"', 'emit "\t"', "emit null", "emit ١", "    emit 1", " emit 1",
@@ -82,7 +82,7 @@ class RefusingTest(unittest.TestCase):
                      "rule r enabled"):
             self.refuse("unit 1 committed", line)
 
-    def test_lines_that_are_none_after_others(self):
+    def test_invalid_lines_after_others(self):
         for lines in (("unit 1 aborted A8", "emit 1"), ("unit 1 committed", "  emit 1", "emit 1"),
                       ("unit 1 committed", "  emit 1", "    emit 1"), ("object item 1", "unit 1 committed"),
                       ("rule r enabled", "object item 1"), ("rule r enabled", "rule r enabled"),
