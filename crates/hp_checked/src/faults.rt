@@ -1,6 +1,7 @@
 //! Why a checked rule base refuses a script or a line.
 
-ghost use Rattle.std.specs.Prelude.{◌≡◌, [], ◌∷◌, ◌++◌, IfOk, OnOk, Some, None, option_map, string_bytes, map, flat_map};
+ghost use Rattle.std.specs.Prelude.{◌≡◌, [], ◌∷◌, ◌++◌, IfOk, OnOk, Some, None, option_map};
+ghost use Rattle.std.specs.Prelude.{string_bytes, map, flat_map};
 ghost use Rattle.hp_model.specs.Output.{path_text};
 ghost use Rattle.hp_model.specs.Refusals.{to_item};
 ghost use Rattle.hp_report.specs.Text.{Gains};

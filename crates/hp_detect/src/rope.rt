@@ -2,7 +2,8 @@
 
 ghost use Rattle.std.specs.Prelude.{◌≡◌, ◌<◌, ◌++◌, length, map, IfOk};
 ghost use Rattle.hp_value.specs.Mapped.{occurrence};
-ghost use Rattle.hp_detect.specs.Ropes.{laid_out, rest_laid_out, IsCounted, RestIsCounted, IsRun, shape, joined_shape, RestIs};
+ghost use Rattle.hp_detect.specs.Ropes.{laid_out, rest_laid_out, IsCounted, RestIsCounted, IsRun, shape, joined_shape};
+ghost use Rattle.hp_detect.specs.Ropes.{RestIs};
 ghost use Rattle.hp_detect.specs.Shapes.{one_chunk, node, IsLow, IsGrown, IsWorn, IsSettled, IsBalanced};
 
 use crate::chunk::Chunk;

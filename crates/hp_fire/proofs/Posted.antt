@@ -79,7 +79,8 @@ module _ {T : Type 0} where
       (one.0, one.1, remembers_then one.0 b c one.2 (subst (λ (facts : List (Fact T)). Remembers facts c) (sym (same_some b two.0 two.1)) two.2))
 
   module _ (changes_of : T → Changes) where
-    below_same : (facts after : List (Fact T)) (n : ℕ) (cell : Cell) → ((j : ℕ) → j < n → known_at after j ≡ known_at facts j) → posted_below changes_of after n cell ≡ posted_below changes_of facts n cell
+    below_same : (facts after : List (Fact T)) (n : ℕ) (cell : Cell) → ((j : ℕ) → j < n → known_at after j ≡ known_at facts j)
+        → posted_below changes_of after n cell ≡ posted_below changes_of facts n cell
     below_same facts after zero cell same = refl
     below_same facts after (suc n) cell same =
         ap (λ o. option_or (change_of changes_of o cell) (posted_below changes_of after n cell)) (same n (omega arith))
@@ -110,7 +111,8 @@ module _ {T : Type 0} where
       pub all : (cell : Cell) → option_or (later cell) (merged cell) ≡ posted_below changes_of facts i cell
       pub merged_are : AreMerged changes_of facts count merged
 
-    pub found_starts : (facts : List (Fact T)) (count : ℕ) (merged later : Changes) → ((cell : Cell) → later cell ≡ None) → AreMerged changes_of facts count merged → AreFound facts count merged later count
+    pub found_starts : (facts : List (Fact T)) (count : ℕ) (merged later : Changes) → ((cell : Cell) → later cell ≡ None) → AreMerged changes_of facts count merged
+        → AreFound facts count merged later count
     found_starts facts count merged later empty are = record {
       from = omega arith;
       none = λ _. empty;

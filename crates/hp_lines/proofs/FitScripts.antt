@@ -20,7 +20,8 @@ use Rattle.hp_model.specs.StatementGrammar.{body_of}
 use Rattle.hp_model.specs.RuleHeads.{RuleParts, RuleHead, rule_names, parts_in, rule_parts_of, rule_head_at, rule_heads_at}
 use Rattle.hp_model.specs.Decode as D
 use Rattle.hp_model.specs.Decode.{Version, first_version, second_version, fourth_version, Schedule, EntryForm, entry_form, entry_form_of, query_form_of, three_in, triple_of, is_word, entry_from}
-use Rattle.hp_model.specs.Decode.{let_entry_at, entry_at, condition_at, coupling_at, closed_at, acting, rule_at, rules_at, script_scope, due_moments, few_moments, names_moment, no_item, ItemForm, item_form, item_form_at}
+use Rattle.hp_model.specs.Decode.{let_entry_at, entry_at, condition_at, coupling_at, closed_at, acting, rule_at, rules_at}
+use Rattle.hp_model.specs.Decode.{script_scope, due_moments, few_moments, names_moment, no_item, ItemForm, item_form, item_form_at}
 use Rattle.hp_model.specs.Decode.{transaction_at, clock_at, item_from, unit_at, units_from, units_at, Root, root_of, version_at, readable, json_at}
 use Rattle.hp_model.specs.Ranges.{entry_fits, body_fits, rule_fits, unit_fits, IsFitLibrary}
 use Rattle.hp_model.specs.Report.{Bytes}
@@ -75,7 +76,8 @@ query_reads : (classes : List Name) (setting : S.Setting) (first second third : 
     → Reads (λ (q : Query). ExpressionFits q.predicate) (D.query_at classes setting first second third name class predicate)
 unfolding D.query_at
 query_reads classes setting first second third name class predicate h =
-    Reads-then (Reads-any (new_row_at setting.names first name)) λ x _. Reads-then (Reads-any (place_at classes second class)) λ n _. Reads-then (whole_reads (S.row_setting x setting) third predicate h) λ e fit. Reads-value _ fit
+    Reads-then (Reads-any (new_row_at setting.names first name)) λ x _. Reads-then (Reads-any (place_at classes second class)) λ n _.
+    Reads-then (whole_reads (S.row_setting x setting) third predicate h) λ e fit. Reads-value _ fit
 
 abbrev EntryFits : Entry → Type 0
 EntryFits e = IsTrue (entry_fits e)
@@ -95,7 +97,8 @@ entry_from_reads classes setting path (D.let_form name aggregate) h = let_reads 
 entry_reads : (version : Version) (classes : List Name) (before : List Entry) → Fits EntryFits (entry_at version classes before)
 unfolding entry_at
 entry_reads version classes before path d h =
-    Reads-then (Reads-more (λ x is. forms_of version d x h is) (Reads-shaped path (entry_form_of version d))) λ form fit. entry_from_reads classes (record { version = version; names = S.names_of before }) path form fit
+    Reads-then (Reads-more (λ x is. forms_of version d x h is) (Reads-shaped path (entry_form_of version d))) λ form fit.
+    entry_from_reads classes (record { version = version; names = S.names_of before }) path form fit
 
 condition_reads : (version : Version) (classes : List Name) → Fits (λ es. IsTrue (list_all entry_fits es)) (condition_at version classes)
 unfolding condition_at
@@ -182,7 +185,8 @@ moments_fit : (p : ℕ → Bool) (until a n : ℕ) → (0 < n → a + n ≤ unti
 moments_fit p until a zero h fit = tt
 moments_fit p until a (suc n) h fit = by (p a) (less_fits (2 ^ 63) a until (omega (arith, h (omega arith))) fit) (moments_fit p until (a + 1) n (λ some. omega (arith, h (omega arith))) fit)
   where
-    by : (b : Bool) → TimeFits a → AllByRecursion TimeFits (filter p (range_with_len (a + 1) n)) → AllByRecursion TimeFits (cond b (a ∷ filter p (range_with_len (a + 1) n)) (filter p (range_with_len (a + 1) n)))
+    by : (b : Bool) → TimeFits a → AllByRecursion TimeFits (filter p (range_with_len (a + 1) n))
+        → AllByRecursion TimeFits (cond b (a ∷ filter p (range_with_len (a + 1) n)) (filter p (range_with_len (a + 1) n)))
     by true here later = (here, later)
     by false here later = later
 
@@ -225,7 +229,8 @@ module _ (version : Version) (library : Library) where
   item_forms word (a ∷ []) x h e = beside_fits ItemFormFits word ((codes "tx", D.transaction_form a) ∷ (codes "clock", D.clock_form a) ∷ []) x e (h.0, (h.0, tt))
   item_forms word (a ∷ b ∷ parts) x h e = cc
 
-  item_reads : (before : Schedule) → ScheduleFits before → (path : Path) (form : ItemForm) → ItemFormFits form → Reads ScheduleFits (item_from version library.rules (library_scope library) path before form)
+  item_reads : (before : Schedule) → ScheduleFits before → (path : Path) (form : ItemForm) → ItemFormFits form
+      → Reads ScheduleFits (item_from version library.rules (library_scope library) path before form)
   item_reads before fit path (D.transaction_form body) h = transaction_reads before fit path body h
   item_reads before fit path (D.clock_form time) h = clock_reads before fit path time h
 

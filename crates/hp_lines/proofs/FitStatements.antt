@@ -51,7 +51,8 @@ over_reads : (classes : List Name) (setting : S.Setting) (path : Path) (variable
     → Reads (λ (o : Over). ExpressionFits o.predicate) (over_at classes setting path variable class predicate)
 unfolding over_at
 over_reads classes setting path variable class predicate h =
-    Reads-then (Reads-any (new_row_at setting.names (item_at path 1) variable)) λ x _. Reads-then (Reads-any (place_at classes (item_at path 2) class)) λ n _. Reads-then (whole_reads (S.row_setting x setting) (item_at path 3) predicate h) λ e fit. Reads-value _ fit
+    Reads-then (Reads-any (new_row_at setting.names (item_at path 1) variable)) λ x _.
+    Reads-then (Reads-any (place_at classes (item_at path 2) class)) λ n _. Reads-then (whole_reads (S.row_setting x setting) (item_at path 3) predicate h) λ e fit. Reads-value _ fit
 
 terms_reads : (classes : List Name) (setting : S.Setting) (path : Path) (variable class predicate term : Data) → DataFits predicate × DataFits term
     → Reads (λ (t : Over × Expression). IsTrue (expression_fits t.0.predicate && expression_fits t.1)) (terms_at classes setting path variable class predicate term)
@@ -91,7 +92,8 @@ pair_reads path d h = Reads-more (λ p is. pair_fits d p h is) (Reads-shaped pat
 assignment_reads : (fields : List Name) (setting : S.Setting) (before : List Assignment) → Fits AssignmentFits (assignment_at fields setting before)
 unfolding assignment_at
 assignment_reads fields setting before path d h =
-    Reads-then (pair_reads path d h) λ pair fit. Reads-then (Reads-any (assigned_field_at fields (G.assigned_names before) (item_at path 0) pair.0)) λ f _. Reads-then (whole_reads setting (item_at path 1) pair.1 fit.1) λ e fits. Reads-value _ fits
+    Reads-then (pair_reads path d h) λ pair fit. Reads-then (Reads-any (assigned_field_at fields (G.assigned_names before) (item_at path 0) pair.0)) λ f _.
+    Reads-then (whole_reads setting (item_at path 1) pair.1 fit.1) λ e fits. Reads-value _ fits
 
 abbrev AssignmentsFit : List Assignment → Type 0
 AssignmentsFit pairs = IsTrue (assignments_fit pairs)
@@ -193,7 +195,8 @@ module _ (scope : S.Scope) where
 
   delete_reads : (setting : S.Setting) (path : Path) (class key : Data) → DataFits key → Reads (StatementFits count) (delete_at scope setting path class key)
   unfolding delete_at
-  delete_reads setting path class key h = Reads-then (Reads-any (place_at (class_names scope.classes) (item_at path 1) class)) λ n _. Reads-then (whole_reads setting (item_at path 2) key h) λ k fit. Reads-value _ fit
+  delete_reads setting path class key h =
+      Reads-then (Reads-any (place_at (class_names scope.classes) (item_at path 1) class)) λ n _. Reads-then (whole_reads setting (item_at path 2) key h) λ k fit. Reads-value _ fit
 
   arguments_reads : (setting : S.Setting) → Fits (λ es. IsTrue (list_all expression_fits es)) (arguments_at setting)
   unfolding arguments_at
@@ -203,7 +206,8 @@ module _ (scope : S.Scope) where
 
   signal_reads : (setting : S.Setting) (path : Path) (name arguments : Data) → DataFits arguments → Reads (StatementFits count) (signal_at setting path name arguments)
   unfolding signal_at
-  signal_reads setting path name arguments h = Reads-then (Reads-any (name_at (item_at path 1) name)) λ x _. Reads-then (arguments_reads setting (item_at path 2) arguments h) λ es fit. Reads-value _ fit
+  signal_reads setting path name arguments h =
+      Reads-then (Reads-any (name_at (item_at path 1) name)) λ x _. Reads-then (arguments_reads setting (item_at path 2) arguments h) λ es fit. Reads-value _ fit
 
   emit_reads : (setting : S.Setting) (path : Path) (value : Data) → DataFits value → Reads (StatementFits count) (emit_at setting path value)
   unfolding emit_at

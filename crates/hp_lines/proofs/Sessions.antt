@@ -91,27 +91,31 @@ empty_file = refl
 pub checked_lines : output (checked false) None
     (codes "{\"version\":1,\"classes\":[],\"rules\":[[\"r\",[\"signal\",\"go\"],\"immediate\",[],\"immediate\",[[\"emit\",[\"+\",[\"arg\",0,0],1]]]]],\"items\":[[\"tx\",[[\"install\",\"r\"]]]]}\n[\"tx\",[[\"emit\",1],[\"signal\",\"go\",[\"a\"]]]]\n[\"tx\",[[\"signal\",\"go\",[]]]]\n[\"tx\",[[\"signal\",\"go\",[1]]]]\n")
     ≡ lines (codes "unit 1 committed" ∷ codes "ok 1" ∷ codes "refused S8 kinds /1/1/2/0" ∷ codes "refused S8 kinds /1/0" ∷ codes "unit 2 committed" ∷ codes "emit 2" ∷ codes "ok 2" ∷ [])
-unfolding script_on_literals library_at timed_script_at timed_script_of item_of request_at request_of assignment_check argument_check emission_check value_check kind_check operand_sort operands_sort comparison_sort
+unfolding script_on_literals library_at timed_script_at timed_script_of item_of request_at request_of
+    assignment_check argument_check emission_check value_check kind_check operand_sort operands_sort comparison_sort
 checked_lines = refl
 
 -- its script must be kinded, in the rules and in its own units
 pub unkinded_rule : output (checked false) None
     (codes "{\"version\":1,\"classes\":[],\"rules\":[[\"r\",[\"signal\",\"go\"],\"immediate\",[],\"immediate\",[[\"emit\",[\"not\",[\"arg\",0,0]]]]]],\"items\":[]}\n[\"show\"]\n")
     ≡ lines (codes "refused S8 kinds /rules/0/5/0/1/1" ∷ [])
-unfolding script_on_literals library_at timed_script_at timed_script_of item_of request_at request_of assignment_check argument_check emission_check value_check kind_check operand_sort operands_sort comparison_sort
+unfolding script_on_literals library_at timed_script_at timed_script_of item_of request_at request_of
+    assignment_check argument_check emission_check value_check kind_check operand_sort operands_sort comparison_sort
 unkinded_rule = refl
 
 pub unkinded_unit : output (checked false) None
     (codes "{\"version\":1,\"classes\":[],\"rules\":[],\"items\":[[\"tx\",[]],[\"tx\",[[\"emit\",1],[\"signal\",\"go\",[true]]]]]}\n[\"show\"]\n")
     ≡ lines (codes "refused S8 kinds unit 2 /1/2/0" ∷ [])
-unfolding script_on_literals library_at timed_script_at timed_script_of item_of request_at request_of assignment_check argument_check emission_check value_check kind_check operand_sort operands_sort comparison_sort
+unfolding script_on_literals library_at timed_script_at timed_script_of item_of request_at request_of
+    assignment_check argument_check emission_check value_check kind_check operand_sort operands_sort comparison_sort
 unkinded_unit = refl
 
 -- and no chain of its rules may have more firings than may nest
 pub too_deep : output (checked false) None
     (codes "{\"version\":1,\"depth\":2,\"classes\":[],\"rules\":[[\"r\",[\"signal\",\"go\"],\"immediate\",[],\"immediate\",[[\"signal\",\"go\",[1]]]]],\"items\":[]}\n[\"show\"]\n")
     ≡ lines (codes "refused S8 depth" ∷ [])
-unfolding script_on_literals library_at timed_script_at timed_script_of item_of request_at request_of assignment_check argument_check emission_check value_check kind_check operand_sort operands_sort comparison_sort
+unfolding script_on_literals library_at timed_script_at timed_script_of item_of request_at request_of
+    assignment_check argument_check emission_check value_check kind_check operand_sort operands_sort comparison_sort
 too_deep = refl
 
 -- the same rules are taken unchecked
@@ -124,5 +128,6 @@ deep_unchecked = refl
 -- of texts the paths are those of the JSON
 pub checked_text : output (checked true) None (codes "version 1 class acct { bal: int }\ntransaction { emit 1 + \"a\" }\ntransaction { emit 7 }\n")
     ≡ lines (codes "ok 0" ∷ codes "refused S8 kinds /1/0/1/2" ∷ codes "unit 1 committed" ∷ codes "emit 7" ∷ codes "ok 1" ∷ [])
-unfolding text_on_literals script_on_literals text_checked text_line_checked library_at timed_script_at excerpt_from show_of item_of request_at assignment_check argument_check emission_check value_check kind_check operand_sort operands_sort comparison_sort
+unfolding text_on_literals script_on_literals text_checked text_line_checked library_at timed_script_at excerpt_from show_of
+    item_of request_at assignment_check argument_check emission_check value_check kind_check operand_sort operands_sort comparison_sort
 checked_text = refl

@@ -7,7 +7,8 @@ ghost use Rattle.hp_script.specs.Mapped.{timed_script};
 ghost use Rattle.hp_lines.specs.Lines.{begun};
 ghost use Rattle.hp_lines.specs.Live as L;
 ghost use Rattle.hp_live.specs.Ends.{status_at};
-ghost use Rattle.hp_live.specs.Kept.{StandsFor, IsStage, IsServer, manner, declared_of, declared_by, bytes_of, Answers, FirstAnswers};
+ghost use Rattle.hp_live.specs.Kept.{StandsFor, IsStage, IsServer, manner, declared_of, declared_by, bytes_of, Answers};
+ghost use Rattle.hp_live.specs.Kept.{FirstAnswers};
 ghost use Rattle.hp_live.specs.Outcomes.{Replies};
 
 use crate::base::RuleBase;
@@ -221,7 +222,8 @@ impl Server {
         requires writer { W.has_failed writer.old ≡ false }
         ensures output { OnOk result (Appends (W.contents writer.old) (W.contents writer.new)
             (L.opening_output (manner options (declared_of checks)) (bytes_of script))) }
-        ensures next { IfOk result (λ server. IsServer server (L.opened_server (manner options (declared_of checks)) (bytes_of script))) }
+        ensures next { IfOk result (λ server.
+            IsServer server (L.opened_server (manner options (declared_of checks)) (bytes_of script))) }
         ensures begins { Begins (W.contents writer.old) (W.contents writer.new)
             (L.opening_output (manner options (declared_of checks)) (bytes_of script)) }
         ensures memory { result ≡ Err Fault.NoMemory → writer.new ≡ writer.old }
@@ -248,7 +250,8 @@ impl Server {
         requires writer { W.has_failed writer.old ≡ false }
         ensures output { OnOk result (Appends (W.contents writer.old) (W.contents writer.new)
             (L.opening_output (manner options (declared_of checks)) (Some file.items))) }
-        ensures next { IfOk result (λ server. IsServer server (L.opened_server (manner options (declared_of checks)) (Some file.items))) }
+        ensures next { IfOk result (λ server.
+            IsServer server (L.opened_server (manner options (declared_of checks)) (Some file.items))) }
         ensures begins { Begins (W.contents writer.old) (W.contents writer.new)
             (L.opening_output (manner options (declared_of checks)) (Some file.items)) }
         ensures memory { result ≡ Err Fault.NoMemory → writer.new ≡ writer.old }

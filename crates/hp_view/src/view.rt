@@ -300,8 +300,8 @@ impl View {
     /// Reads the greatest key of a class, which is then the one that `has_greatest_key` takes.
     ///
     /// It is recorded as it stands beneath the view's own writes, unless it or the class's keys were read before: then
-    /// it takes no memory. Where the writes delete the object with that key, the keys are read: that takes memory unless
-    /// they were read before. An error means that memory ran out; the view is then as before.
+    /// it takes no memory. Where the writes delete the object with that key, the keys are read: that takes memory
+    /// unless they were read before. An error means that memory ran out; the view is then as before.
     pub fn read_greatest_key(&mut self, alloc: Global, class: ClassNo) -> Result<(), AllocError>
         ensures reads { OnOk result (ReadsGreatest self.old self.new class) }
         ensures err { OnErr result (self.new ≡ self.old) }

@@ -11,6 +11,7 @@ loop-n-preserved c =
     let S = shown c.args.spots.now in
     let next : c.loop-n.n + 1 ≡ suc c.loop-n.n = omega arith in
     let split : drop c.loop-n.n c.args.rules.now ≡ c.index-rules-n.result ∷ drop (c.loop-n.n + 1) c.args.rules.now = grind (arith, common_steps, c.index-rules-n.is, c.loop-n-test.true) in
-    idle_put S c.args.present.now c.args.reached.now c.loop-n.n (c.loop-n.n + 1) (rule c.index-rules-n.result) (map rule (drop c.loop-n.n c.args.rules.now)) (map rule (drop (c.loop-n.n + 1) c.args.rules.now))
+    idle_put S c.args.present.now c.args.reached.now c.loop-n.n (c.loop-n.n + 1) (rule c.index-rules-n.result)
+    (map rule (drop c.loop-n.n c.args.rules.now)) (map rule (drop (c.loop-n.n + 1) c.args.rules.now))
     (string_bytes c.loop-n.out) (string_bytes c.put_idle.new.out)
     (string_bytes c.args.out.now ++ idle_lines S c.args.present.now c.args.reached.now 0 (map rule c.args.rules.now)) next (ap (map rule) split) c.in_ok-put_idle.ensures c.loop-n.invariant
