@@ -114,6 +114,8 @@ impl<W: Workers> Engine<'_, W> {
 /// the task is tried again or run by the caller. So threads don't change the outcome. The gate is notified of each task
 /// that a worker starts and ends, by its index in the group. A worker that runs out of memory leaves its task to the
 /// caller.
+///
+/// Programs call `Engine::run_siblings`, which has no gate; the specification of the crates names this call, too.
 pub fn run_group<R: Threads + Sync, G: Gate + Sync>(
     rt: &R,
     alloc: Global,
@@ -155,7 +157,8 @@ pub fn run_group<R: Threads + Sync, G: Gate + Sync>(
 
 /// Tries a task on a snapshot. The attempt stands for the task's firing on each state in which its reads hold.
 ///
-/// A group of firings inside uses at most `width` threads, while this thread sleeps.
+/// A group of firings inside uses at most `width` threads, while this thread sleeps. Programs call `Engine`, which makes
+/// its attempts in the same way; the specification of the crates names this call, too.
 pub fn run_task<W: Workers>(
     workers: &W,
     alloc: Global,
