@@ -4,6 +4,7 @@ use Rattle.std.proofs.Common.{◌∙◌}
 use Rattle.hp_model.specs.State.{Objects}
 use Rattle.hp_model.specs.ClassParts.{ClassPart}
 use Rattle.hp_view.specs.Seeing.{OnlyReads}
+use Rattle.hp_view.specs.Asking.{AsksCount, AsksGreatest}
 use Rattle.hp_view.specs.Looks.{Allows, AsksOf, AsksRow, AsksPart, asks_same, asks_then, asks_row_same, only_reads_same, only_reads_then, reads_narrow}
 use Rattle.hp_fire.specs.declared.counting.Counting.{Counting}
 
@@ -25,6 +26,13 @@ AsksRowCounted class key a b = AsksRow class key a.view.now b.view.now
 
 abbrev pub AsksPartCounted : ℕ → ClassPart → Counting → Counting → Type 0
 AsksPartCounted class part a b = AsksPart class part a.view.now b.view.now
+
+-- and so does one about the number of a class's objects, or about their greatest key
+abbrev pub AsksCountCounted : ℕ → Counting → Counting → Type 0
+AsksCountCounted class a b = AsksCount class a.view.now b.view.now
+
+abbrev pub AsksGreatestCounted : ℕ → Counting → Counting → Type 0
+AsksGreatestCounted class a b = AsksGreatest class a.view.now b.view.now
 
 pub asks_row_counted_same : (class : ℕ) (key : ℤ) (c : Counting) → AsksRowCounted class key c c
 asks_row_counted_same class key c = asks_row_same class key c.view.now

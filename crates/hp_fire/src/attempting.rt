@@ -22,6 +22,7 @@ pub(crate) fn attempt_on(view: View, task: &Task, outcome: Outcome) -> Result<At
         → RunsFiring library (λ S. fire_task library S (task_of task.now)) first view (firing_of outcome)
         → IsSound library (attempt_of a)) }
     ensures reads_held { IfOk result (λ a. Holds (cells_in view.base) a.reads) }
+    ensures task { IfOk result (λ a. task_of a.task ≡ task_of task.now) }
 {
     let copy = task.clone()?;
     let (reads, layer) = view.into_parts();

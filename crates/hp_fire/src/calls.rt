@@ -170,6 +170,7 @@ pub fn run_task<W: Workers>(
     requires ready { W.ready workers.now }
     ensures sound { IfOk result (λ a. IsSound (library lib.now) (attempt_of a)) }
     ensures reads_held { IfOk result (λ a. Holds (cells_in snapshot) a.reads) }
+    ensures task { IfOk result (λ a. task_of a.task ≡ task_of task.now) }
 {
     let past = Past::new(alloc, lib, width);
     let engine = Engine::new(workers, alloc, lib, width, &past);

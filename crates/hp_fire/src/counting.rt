@@ -96,6 +96,7 @@ impl Look for Counting<'_> {
     ghost use Rattle.hp_fire.specs.Counted.{AllowsCounted, OnlyCounts, counts_same, counts_then, counts_narrow};
     ghost use Rattle.hp_fire.specs.Counted.{AsksCounted, asks_counted_same, asks_counted_then};
     ghost use Rattle.hp_fire.specs.Counted.{AsksRowCounted, AsksPartCounted, asks_row_counted_same};
+    ghost use Rattle.hp_fire.specs.Counted.{AsksCountCounted, AsksGreatestCounted};
 
     ghost allows = { AllowsCounted };
 
@@ -106,6 +107,10 @@ impl Look for Counting<'_> {
     ghost asks_row = { AsksRowCounted };
 
     ghost asks_part = { AsksPartCounted };
+
+    ghost asks_count = { AsksCountCounted };
+
+    ghost asks_greatest = { AsksGreatestCounted };
 
     ghost goes_on_same = { counts_same };
 

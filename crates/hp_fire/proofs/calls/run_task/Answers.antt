@@ -17,3 +17,6 @@ returns-clause-sound g c =
 pub returns-clause-reads_held : goal.returns-clause-reads_held
 returns-clause-reads_held g c =
     subst (λ (s : Stack). IfOk c.attempt_on.result (λ a. Holds (cells_in s) a.reads)) (c.in_ok-outcome.ensures.goes_on.base ∙ c.in_ok-view.ensures.base) c.attempt_on.ensures.reads_held
+
+pub returns-clause-task : goal.returns-clause-task
+returns-clause-task g c = c.attempt_on.ensures.task

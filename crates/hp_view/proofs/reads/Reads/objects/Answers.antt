@@ -1,6 +1,4 @@
-use Rattle.std.proofs.Common.{◌≡◌, ◌∙◌, sym, ap, subst, is_some, Some, true, false}
-use Rattle.std.specs.Prelude.{IfSome, IsNone}
-use Rattle.hp_model.specs.Cells.{Holds}
+use Rattle.std.proofs.Common.{◌∙◌, sym, ap, is_some}
 use Rattle.hp_view.specs.declared.reads.Seen.TheVariants.{Keys as OfKeys}
 use Rattle.hp_view.specs.Seeing.{keys_were_read, class_was_read}
 use Rattle.hp_view.proofs.Noting.{recorded, told_whole, is_whole, whole_recorded, seen_same, seen_none}

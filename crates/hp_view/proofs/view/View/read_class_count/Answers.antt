@@ -1,4 +1,4 @@
-use Rattle.std.proofs.Common.{◌≡◌, ◌∙◌, sym, ap, inr, subst, true, false, true≢false}
+use Rattle.std.proofs.Common.{◌∙◌, sym, ap, inr, subst, true≢false}
 use Rattle.hp_store.specs.Stack.{cells_in}
 use Rattle.hp_store.specs.Changes.{class_entries}
 use Rattle.hp_view.specs.Counts.{all_read}
