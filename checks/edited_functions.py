@@ -9,7 +9,7 @@ import os
 import re
 
 # The head of a function, with its indentation and its name.
-HEAD = re.compile(r"( *)(?:pub(?:\([a-z ]+\))? )?(?:const )?fn (\w+)")
+HEAD = re.compile(r"( *)(?:pub(?:\([a-z ]+\))? )?(?:const )?(?:extern \"C\" )?fn (\w+)")
 
 # The head of an impl, with its trait, if it has one, and its type.
 IMPL = re.compile(r"impl(?:<.*?>)? (?:(?P<of>[\w:]+)(?:<.*?>)? for )?(?P<type>[\w:]+)")

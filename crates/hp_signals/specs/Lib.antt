@@ -1,3 +1,4 @@
 pub mod Signals
 pub mod Mapped
+pub mod OfBytes
 pub mod Exits

@@ -1,6 +1,7 @@
 //! The signals of a file.
 
 ghost use Rattle.hp_signals.specs.Mapped.{AreOfBytes};
+ghost use Rattle.hp_signals.specs.OfBytes.{AreOf};
 
 use crate::fault::SignalsFault;
 use crate::reading::read_signals;
@@ -27,7 +28,7 @@ pub fn signals_of_file<R: Files + AllocGlobal>(
 
 /// The signatures that bytes declare.
 fn signals_of(alloc: Global, bytes: &[u8]) -> Result<Declaration, SignalsFault>
-    ensures { AreOfBytes result }
+    ensures { AreOf bytes.now result }
 {
     match read_signals(alloc, bytes) {
         Ok(declaration) => Ok(declaration),
