@@ -15,7 +15,7 @@ returns-clause-finds c = λ lib.
     let fits : SFits w64 c.args.key = search rules in
     let back : to_z w64 (of_z w64 c.args.key) ≡ c.args.key = to_z-of_z w64 c.args.key fits in
     subst (λ k. Finds lib (λ S. find_object S.objects c.args.class k) c.fetch.new.self.reads (written c.fetch.new.self) c.row_in.result) back
-    (object_found lib c.args.class (to_z w64 (of_z w64 c.args.key)) c.args.view.now c.fetch.new.self _ _ c.in_ok-value.ensures.only c.in_ok-value.ensures.shows 
+    (object_found lib c.args.class (to_z w64 (of_z w64 c.args.key)) c.args.view.now c.fetch.new.self _ _ c.in_ok-value.ensures.only c.in_ok-value.ensures.shows
     (c.in_ok-value.ensures.value ∙ still_now (object_cell c.args.class (to_z w64 (of_z w64 c.args.key))) c.in_ok-value.ensures.only) c.row_in.ensures)
 
 pub returns-clause-reads : goal.returns-clause-reads

@@ -27,7 +27,7 @@ returns-then-has_row-clause-shows c =
 
 first_read : (c : goal.In_ok-note_value) → Noted (the_view c.self.inside) c.args.self.now (cell c.args.cell) c.note_value.new.self
 first_read c =
-    noted_first (cell c.args.cell) c.note_value.new.self _ c.self.view_is c.self.invariant.held 
+    noted_first (cell c.args.cell) c.note_value.new.self _ c.self.view_is c.self.invariant.held
     (some_seen _ _ (c.get.ensures ∙ ap (λ es. changes es (cell c.args.cell)) c.deref.ensures) ∙ ap is_some c.in_default.is)
     c.in_ok-note_value.ensures.ok c.get-value.ensures
 
