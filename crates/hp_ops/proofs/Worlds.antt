@@ -32,6 +32,10 @@ index_none (y ∷ ys) (suc n) d is = index_none ys n d is
 pub shown_now : {v w : Seeing} {cell : Cell} → OnlyReads v w → Shows w cell (now_in v cell) → (base : Cells) → Holds base w.reads → over base (written w) cell ≡ now_in w cell
 shown_now {v} {w} {cell} on shows base held = shows.everywhere base held ∙ (λ i. over (cells_in (sym on.base i)) (changes (sym on.writes i)) cell)
 
+-- reads change no cell
+pub still_now : {v w : Seeing} (cell : Cell) → OnlyReads v w → now_in v cell ≡ now_in w cell
+still_now cell on = λ i. over (cells_in (sym on.base i)) (changes (sym on.writes i)) cell
+
 -- what is found of an object
 pub object_found : (library : Library) (class : ℕ) (key : ℤ) (v w : Seeing) (value : Option CellValue) (row : Option Row) → OnlyReads v w
     → Shows w (object_cell class key) (now_in v (object_cell class key))

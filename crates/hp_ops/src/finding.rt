@@ -32,18 +32,17 @@ pub fn find_object(
     ensures only { OnlyReads view.old view.new }
     ensures goes_on { GoesOn view.old view.new }
 {
-    view.read(Cell::Object(class, key))?;
-    let row = row_in(view.peek(Cell::Object(class, key)))?;
-    Ok(row)
+    let value = view.fetch(Cell::Object(class, key))?;
+    Ok(row_in(value))
 }
 
-/// The row in an object's cell, shared.
-fn row_in(value: Option<&CellValue>) -> Result<Option<Row>, AllocError>
-    ensures { IfOk result (λ row. row ≡ row_at (option_map (λ v. cell_value v.now) value.entry)) }
+/// The row in an object's cell.
+fn row_in(value: Option<CellValue>) -> Option<Row>
+    ensures { result ≡ row_at (option_map (λ v. cell_value v) value) }
 {
     match value {
-        Some(CellValue::Row(row)) => Ok(Some(row.clone()?)),
-        _ => Ok(None),
+        Some(CellValue::Row(row)) => Some(row),
+        _ => None,
     }
 }
 
@@ -60,17 +59,16 @@ pub fn find_status(view: &mut View, rule: RuleNo) -> Result<Option<Status>, Allo
     ensures only { OnlyReads view.old view.new }
     ensures goes_on { GoesOn view.old view.new }
 {
-    view.read(Cell::Rule(rule))?;
-    let status = status_in(view.peek(Cell::Rule(rule)));
-    Ok(status)
+    let value = view.fetch(Cell::Rule(rule))?;
+    Ok(status_in(value))
 }
 
 /// The status in a rule's cell.
-fn status_in(value: Option<&CellValue>) -> Option<Status>
-    ensures { status_of result ≡ status_at (option_map (λ v. cell_value v.now) value.entry) }
+fn status_in(value: Option<CellValue>) -> Option<Status>
+    ensures { status_of result ≡ status_at (option_map (λ v. cell_value v) value) }
 {
     match value {
-        Some(CellValue::Status(status)) => Some(*status),
+        Some(CellValue::Status(status)) => Some(status),
         _ => None,
     }
 }

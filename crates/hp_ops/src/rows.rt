@@ -42,7 +42,8 @@ pub fn new_object(
         (model.made_row (class_at (library lib.now) class).fields)) }
 {
     let key = key.eval(alloc, env)?;
-    let given = assigned(alloc, env, pairs)?;
+    let mut given = GivenValues::new(alloc);
+    assigned(alloc, env, pairs, &mut given)?;
     let key = key.as_int()?;
     let fields = class_fields(alloc, lib, class)?;
     let row = made_row(alloc, &fields, &given)?;
@@ -51,7 +52,6 @@ pub fn new_object(
 
 /// The key that an `update` gives, and in `given` the values, evaluated and tested in the same order. After an error
 /// `given` may hold them, too.
-// A list that were returned would be moved several times.
 pub fn given_values<'a>(
     alloc: Global,
     lib: &Library,
@@ -66,21 +66,24 @@ pub fn given_values<'a>(
         (model.checked_kinds (class_at (library lib.now) class).fields)) }
 {
     let key = key.eval(alloc, env)?;
-    *given = assigned(alloc, env, pairs)?;
+    assigned(alloc, env, pairs, given)?;
     let key = key.as_int()?;
     check_kinds(fields_in(lib, class), given)?;
     Ok(key)
 }
 
-/// The values that a statement gives, each with its field's name.
+/// The values that a statement gives, each with its field's name, in place of what the list has.
+// A list that were returned would be moved several times.
 fn assigned<'a>(
     alloc: Global,
     env: &Env<'_>,
     pairs: &'a [Assignment],
-) -> Result<GivenValues<'a>, Halt>
-    ensures { Meets (λ gs. given_in gs.items) result (model.assigned (environment env.now) (map assignment pairs.now)) }
+    given: &mut GivenValues<'a>,
+) -> Result<(), Halt>
+    ensures { Meets (λ _. given_in given.new.items) result
+        (model.assigned (environment env.now) (map assignment pairs.now)) }
 {
-    let mut given = SmallVec::with_capacity(alloc, pairs.len())?;
+    given.clear();
     for pair in pairs {
         let value = pair.value.eval(alloc, env)?;
         let field = pair.field.as_str();
@@ -88,7 +91,7 @@ fn assigned<'a>(
             .push(Given { field, value })
             .map_err(AllocError::from)?;
     }
-    Ok(given)
+    Ok(())
 }
 
 /// The fields of a class; none if the library has no such class.

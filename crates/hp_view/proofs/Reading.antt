@@ -1,7 +1,7 @@
 -- Reads that are noted once, and what they show wherever they hold.
-use Rattle.std.proofs.Common.{◌≡◌, refl, sym, ap, ◌∙◌, subst, ℕ, ℤ, Bool, true, false, true≢false, ◌||◌, ◌==◌, List, [], ◌∷◌, ◌++◌, append-nil, length, drop, Option, Some, None}
+use Rattle.std.proofs.Common.{◌≡◌, refl, sym, ap, ◌∙◌, subst, ℕ, ℤ, Bool, true, false, true≢false, ◌||◌, ◌==◌, List, [], ◌∷◌, ◌++◌, append-nil, length, drop, Option, Some, None, Result, Ok, Err}
 use Rattle.std.proofs.Common.{is_some, if◌then◌else◌, arith}
-use Rattle.std.specs.Prelude.{IfSome, option_map}
+use Rattle.std.specs.Prelude.{IfSome, IfOk, OnOk, option_map}
 use Rattle.std.specs.List.{list_any}
 use Rattle.std.proofs.lemmas.Bool.Decides.{Decides-eqb}
 use Rattle.hp_model.specs.Cells.{Cell, CellValue, Cells, Changes, object_cell, rule_cell, detector_cell, changed, over, same_cell, Read, cell_read, keys_read, greatest_read}
@@ -187,6 +187,17 @@ shows_again {v} {old} cell from held again =
     subst (λ u. Shows u cell (now_in u cell)) from
     (record { everywhere = λ base here. ap (λ o. changed o (written v cell)) (cell_again base (beneath v) cell v.reads here.each held.each again) })
 
+-- a cell that was read by itself, and one that was read with its class
+pub read_by_itself : (reads : List Read) (cell : Cell) → list_any (reads_cell cell) reads ≡ true → cell_was_read reads cell ≡ true
+read_by_itself reads cell is = ap (λ b. b || row_was_read reads cell) is
+
+pub read_with_class : (reads : List Read) (cell : Cell) → row_was_read reads cell ≡ true → cell_was_read reads cell ≡ true
+read_with_class reads cell is = by (list_any (reads_cell cell) reads)
+  where
+    by : (b : Bool) → (b || row_was_read reads cell) ≡ true
+    by true = refl
+    by false = is
+
 -- a cell's value that is told beneath, where no write covers it
 pub peeked : {v old : Seeing} (cell : Cell) (value : Option CellValue) → v ≡ old → Holds (beneath v) v.reads → is_some (written v cell) ≡ false
     → ((base : Cells) → Holds base v.reads → value ≡ base cell) → value ≡ now_in old cell
@@ -304,3 +315,12 @@ some_told (Some a) told found = (a, told)
 pub some_seen : {A B : Type 0} (f : A → B) (o : Option A) {w : Option B} → option_map f o ≡ w → is_some w ≡ is_some o
 some_seen f None is = ap is_some (sym is)
 some_seen f (Some a) is = ap is_some (sym is)
+
+-- what a value is, and what is so whether or not there is one
+pub on_same : {X E Y : Type 0} (f : X → Y) (r : Result X E) {x y : Y} → IfOk r (λ c. f c ≡ x) → x ≡ y → IfOk r (λ c. f c ≡ y)
+on_same f (Ok c) told more = told ∙ more
+on_same f (Err e) told more = tt
+
+pub always : {A E P : Type 0} (r : Result A E) → P → OnOk r P
+always (Ok a) told = told
+always (Err e) told = tt

@@ -46,8 +46,8 @@ impl Look for View {
     ghost narrows = { reads_narrow };
 
     fn row(&mut self, alloc: Global, class: ClassNo, key: Key) -> Result<Option<Row>, AllocError> {
-        match self.get(Cell::Object(class, key))? {
-            Some(CellValue::Row(row)) => Ok(Some(row.clone()?)),
+        match self.fetch(Cell::Object(class, key))? {
+            Some(CellValue::Row(row)) => Ok(Some(row)),
             _ => Ok(None),
         }
     }

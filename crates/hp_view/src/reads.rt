@@ -18,6 +18,9 @@ use std::alloc::{AllocError, Global};
 use std::marker::Model;
 use std::sync::Arc;
 
+// For how many reads there is room from the first one on.
+const FIRST_READS: usize = 18;
+
 /// What of a snapshot was looked at.
 #[derive(Clone, Copy, Debug, PartialEq, Eq, Hash)]
 pub enum Seen {
@@ -312,7 +315,7 @@ impl Reads {
     }
 
     // Whether a cell is an object's whose class was read as a whole.
-    fn has_row(&self, cell: Cell) -> bool
+    pub(crate) fn has_row(&self, cell: Cell) -> bool
         ensures { result ≡ row_was_read self.now (mapped.cell cell) }
     {
         match cell {
@@ -465,7 +468,7 @@ fn compared(found: &Found, part: &ClassPart<'_>) -> PartState
 }
 
 // A copy of a value that shares what the value has.
-fn shared(value: Option<&CellValue>) -> Result<Option<CellValue>, AllocError>
+pub(crate) fn shared(value: Option<&CellValue>) -> Result<Option<CellValue>, AllocError>
     ensures { IfOk result (λ copy. option_map cell_value copy ≡ option_map (λ v. cell_value v.now) value.entry) }
 {
     match value {
@@ -483,6 +486,17 @@ fn note(entries: &mut IndexMap<Seen, Found>, seen: Seen, found: Found) -> Result
     ensures err { OnErr result (map read entries.new.entries ≡ map read entries.old.entries) }
     ensures numbered { AreNumbered entries.new.entries }
 {
+    make_room(entries)?;
     entries.insert(seen, found)?;
+    Ok(())
+}
+
+// Makes room for the reads of most units at once, so that the map doesn't grow step by step.
+fn make_room(entries: &mut IndexMap<Seen, Found>) -> Result<(), AllocError>
+    ensures { entries.new.entries ≡ entries.old.entries }
+{
+    if entries.is_empty() {
+        entries.reserve(FIRST_READS)?;
+    }
     Ok(())
 }

@@ -27,7 +27,7 @@ ghost use Rattle.hp_view.specs.Seeing.{ReadsPart, ReadsGreatest, ShowsGreatest, 
 ghost use Rattle.hp_view.specs.Seeing.{part_was_read, number_was_read};
 ghost use Rattle.hp_view.specs.Wholes.{is_row, LacksList, HasNoList, ReadsWhole};
 
-use crate::reads::{PartState, Reads};
+use crate::reads::{PartState, Reads, shared};
 use crate::undo::{Replaced, take_back, write, write_all};
 use hp_store::{CellValue, Layer, Snapshot};
 use hp_value::{Attribute, Cell, ClassNo, ClassPart, Key, KeyedRow, ObjectList};
@@ -137,6 +137,34 @@ impl View {
             Some(found) => found.value(),
             None => self.base.get(cell),
         }
+    }
+
+    /// Reads a cell and gives its value, shared, or none where the cell is empty: what `read` and then `peek` give, but
+    /// the writes and the reads are looked up once.
+    ///
+    /// An error means that memory ran out, or that std refused a copy of an `Arc`; the view is then as before.
+    pub fn fetch(&mut self, cell: Cell) -> Result<Option<CellValue>, AllocError>
+        ensures value { IfOk result (λ found. option_map (λ v. cell_value v) found
+            ≡ now_in self.old (mapped.cell cell)) }
+        ensures reads { OnOk result (self.new ≡ record self.old { reads = read_cell self.old (mapped.cell cell) }) }
+        ensures err { OnErr result (self.new ≡ self.old) }
+        ensures shows { OnOk result (Shows self.new (mapped.cell cell) (now_in self.old (mapped.cell cell))) }
+        ensures only { OnlyReads self.old self.new }
+        ensures goes_on { GoesOn self.old self.new }
+    {
+        if let Some(change) = self.writes.get(cell) {
+            return shared(change.as_ref());
+        }
+        if let Some(found) = self.reads.in_cell(cell) {
+            return shared(found.value());
+        }
+        let value = self.base.get(cell);
+        if self.reads.has_row(cell) {
+            return shared(value);
+        }
+        let copy = shared(value)?;
+        self.reads.note_value(cell, value)?;
+        Ok(copy)
     }
 }
 
