@@ -2,7 +2,8 @@
 
 use super::fixtures::{bank, have_keys, object, set};
 use hp_attempt::{first_failed, holds};
-use hp_value::{Attribute, Bounds, ClassPart, Key};
+use hp_query::{Query, answer};
+use hp_value::{Attribute, Bounds, ClassPart, Comparison, Env, Expr, Key, Value};
 use hp_view::{Found, Reads, Seen, View};
 use std::alloc::{AllocError, Global};
 use std::process::Abort;
@@ -166,4 +167,34 @@ fn different_parts_do_not_conflict(rt: HostRuntime) -> Result<(), Fail> {
     let first = reads_of(rt.alloc(), &BY_KEYS)?;
     let second = reads_of(rt.alloc(), &from_key(6))?;
     change_the_other_part(&rt, rt.alloc(), &first, &second)
+}
+
+// A query for the rows of class 0 whose keys are 2 or more.
+fn keys_from_two(alloc: Global) -> Result<Query, AllocError> {
+    let variable = String::from_str(alloc, "x")?;
+    let own = Box::new(alloc, Expr::KeyOf { variable })?;
+    let two = Box::new(alloc, Expr::literal(Value::Int(2)))?;
+    let predicate = Expr::Comparison(Comparison::AtLeast, own, two);
+    Ok(Query {
+        name: String::from_str(alloc, "x")?,
+        class: 0,
+        predicate: Box::new(alloc, predicate)?,
+    })
+}
+
+fn ask_from_two(rt: &impl Abort, alloc: Global, view: &mut View) -> Result<(), Fail> {
+    let asked = keys_from_two(alloc)?;
+    let rows = answer(alloc, &asked, &Env::new(None, &[], &[], 0), view)?;
+    assert!(rt; have_keys(&rows, &[2, 10]));
+    Ok(())
+}
+
+// It reads no key and no row beside the part.
+#[test]
+fn a_query_for_a_part_reads_the_part_alone(rt: HostRuntime) -> Result<(), Fail> {
+    let mut view = bank(rt.alloc())?;
+    ask_from_two(&rt, rt.alloc(), &mut view)?;
+    let (reads, _) = view.into_parts();
+    assert_found(&rt, &reads, &[&[2, 10]]);
+    Ok(())
 }

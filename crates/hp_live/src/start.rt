@@ -1,6 +1,6 @@
 //! How a run begins.
 
-ghost use Rattle.std.specs.Prelude.{◌≡◌, ◌≢◌, ◌↔◌, IfOk, Some, true, false};
+ghost use Rattle.std.specs.Prelude.{◌≡◌, ◌≢◌, ◌↔◌, IfOk, IsSome, None, Some, true, false};
 ghost use Rattle.std.specs.Io.KnownBytes.{Consumes};
 ghost use Rattle.hp_analysis.specs.Declarations.{declared};
 ghost use Rattle.hp_checked.specs.Readings.{KeepsGiven};
@@ -28,7 +28,7 @@ pub struct Start {
 impl Start {
     /// What a run begins with, whose rule base is checked if signatures of signals are given, be they none. Then a
     /// declaration that keeps these is found for the script: for the file's, or else for the first line, up to whose
-    /// end the reader is read.
+    /// end the reader is read. Where a file has the script, or nothing is checked, nothing is read.
     ///
     /// The reader must not have failed before. After a fault some of it may have been read.
     pub fn of<R: Source>(
@@ -43,6 +43,8 @@ impl Start {
         ensures checks { IfOk result (λ start. KeepsGiven (declared_of given) (declared_of start.checks)) }
         ensures ahead { IfOk result (λ start.
             Consumes (R.remaining reader.old) (R.remaining reader.new) start.ahead.items) }
+        ensures unchecked { given ≡ None → reader.new ≡ reader.old }
+        ensures unread { IsSome script → reader.new ≡ reader.old }
         ensures read { result ≡ Err Fault.Read ↔ (R.has_failed reader.new ≡ true) }
         ensures write { result ≢ Err Fault.Write }
     {
@@ -69,6 +71,7 @@ impl Start {
         ensures checks { IfOk result (λ start. KeepsGiven (Some (declared given)) (declared_of start.checks)) }
         ensures ahead { IfOk result (λ start.
             Consumes (R.remaining reader.old) (R.remaining reader.new) start.ahead.items) }
+        ensures unread { IsSome script → reader.new ≡ reader.old }
         ensures read { result ≡ Err Fault.Read ↔ (R.has_failed reader.new ≡ true) }
         ensures write { result ≢ Err Fault.Write }
     {
@@ -99,6 +102,7 @@ fn read_ahead<R: Source>(
     requires { R.has_failed reader.old ≡ false }
     ensures ahead { IfOk result (λ bytes.
         Consumes (R.remaining reader.old) (R.remaining reader.new) bytes.items) }
+    ensures unread { IsSome file.now → reader.new ≡ reader.old }
     ensures read { result ≡ Err Fault.Read ↔ (R.has_failed reader.new ≡ true) }
     ensures write { result ≢ Err Fault.Write }
 {
