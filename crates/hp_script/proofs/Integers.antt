@@ -1,12 +1,12 @@
 -- An integer is read as a constant.
-use Rattle.std.proofs.Common.{arith, ◌≡◌, ◌<◌, ℕ, zero, suc, ℤ, Option, Some, None, Ok, ap}
+use Rattle.std.proofs.Common.{arith, ◌≡◌, ◌<◌, ℕ, zero, suc, ℤ, Option, Some, Ok, ap}
 use Rattle.std.specs.Prelude.{option_and_then}
 use Rattle.std.proofs.lemmas.Option.{none-some}
 use Rattle.serde_json.specs.Data.{Data, null, boolean, number, string, array, object}
 use Rattle.serde_json.specs.Find.{as_number, as_i64}
 use Rattle.hp_model.specs.Values.{integer, ◌>>=◌}
-use Rattle.hp_model.specs.Expressions.{Expression, constant}
-use Rattle.hp_model.specs.Refusals.{Path, Decoded, whole}
+use Rattle.hp_model.specs.Expressions.{constant}
+use Rattle.hp_model.specs.Refusals.{Path, whole}
 use Rattle.hp_model.specs.Scopes.{Setting}
 use Rattle.hp_model.specs.ExpressionGrammar.{number_form, expression_from, expression_within}
 

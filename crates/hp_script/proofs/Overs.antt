@@ -1,5 +1,5 @@
 -- The rows of an aggregate are read as a query is.
-use Rattle.std.proofs.Common.{◌≡◌, ap, refl, sym, ◌∙◌, subst, List, Result, Ok, Err}
+use Rattle.std.proofs.Common.{◌≡◌, ap, refl, sym, subst, List, Result, Ok, Err}
 use Rattle.serde_json.specs.Data.{Data}
 use Rattle.hp_model.specs.Values.{Name, ◌>>=◌}
 use Rattle.hp_model.specs.Rules as R

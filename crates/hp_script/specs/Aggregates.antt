@@ -3,7 +3,6 @@ use Rattle.serde_json.specs.View.{view}
 use Rattle.hp_model.specs.AggregateGrammar as A
 use Rattle.hp_query.specs.Mapped.{query}
 use Rattle.hp_query.specs.declared.query.Query.{Query}
-use Rattle.hp_script.specs.declared.query.QueryForm.{QueryForm}
 use Rattle.hp_script.specs.declared.aggregate_form.AggregateForm.{AggregateForm}
 use Rattle.hp_script.specs.declared.aggregate_form.AggregateForm.TheVariants.{Count, Sum, Least, Greatest, Next}
 

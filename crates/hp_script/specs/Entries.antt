@@ -1,7 +1,6 @@
 -- What the forms of a condition's entries stand for.
 use Rattle.serde_json.specs.View.{view}
 use Rattle.hp_model.specs.Decode as D
-use Rattle.hp_script.specs.declared.query.QueryForm.{QueryForm}
 use Rattle.hp_script.specs.declared.entry_form.EntryForm.{EntryForm}
 use Rattle.hp_script.specs.declared.entry_form.EntryForm.TheVariants.{Query, No, Let}
 

@@ -1,4 +1,4 @@
-use Rattle.std.proofs.Common.{arith, rules, ◌≡◌, ◌+◌, length, ap, ◌∙◌, length-append}
+use Rattle.std.proofs.Common.{rules}
 use Rattle.serde_json.specs.View.{view}
 use Rattle.hp_model.specs.Decode.{class_at}
 use Rattle.hp_value.specs.Mapped.{class_def}
