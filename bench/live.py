@@ -1,7 +1,7 @@
 #!/usr/bin/env python3
 """Measures a rule base that stays up, and prints the tables of bench/README.md on it.
 
-    bench/live.py HIPAC_LIVE HIPAC [--times N] [--lines N] [--trips N]
+    bench/live.py HIPAC_LIVE HIPAC [--times N] [--lines N] [--objects N] [--trips N]
 
 HIPAC_LIVE and HIPAC are the proved programs, which `./build` makes. Each line is a transaction of one update, on which
 one rule fires to keep a sum. All commands of a table run alternately, N times (5), so that the load of the machine
@@ -9,9 +9,10 @@ affects all of them, and the table has their median times.
 
 The first table has the time of a line (1,000,000 of them) by a pipe; of the same units in scripts of at most 1 MiB; and
 of the same updates, one statement for each line by a pipe, in sqlite3 with a trigger over an in-memory database. The
-second one has the memory of hipac_live after a hundredth of the lines and after all of them. The third one has the time
-from a line to its answer (the median of 10,000) for a client in Python by two pipes, beside that of a program in C
-which only sends each line back; gcc makes it.
+second one has the memory of hipac_live after a hundredth of the lines and after all of them. The third one has the
+memory that each of 1,000,000 objects of one field takes. The fourth one has the time from a line to its answer (the
+median of 10,000) for a client in Python by two pipes, beside that of a program in C which only sends each line back;
+gcc makes it.
 """
 
 import argparse
@@ -55,6 +56,9 @@ AT_ONCE = 500
 
 # The number of units of a script that is within the program's limit of 1 MiB.
 IN_SCRIPT = 20_000
+
+# The number of objects that one line creates, within the same limit.
+IN_LINE = 10_000
 
 
 def update(number):
@@ -175,6 +179,24 @@ def print_memory(given):
     client.close()
 
 
+def creations(first):
+    """A line that creates objects with ascending keys."""
+    statements = ",".join(f'["create","acct",{key},[["bal",{key}]]]' for key in range(first, first + IN_LINE))
+    return f'["tx",[{statements}]]\n'
+
+
+def print_objects(given):
+    client, lines = live_client(given), given.objects // IN_LINE
+    before = client.memory()[0]
+    for number in range(lines):
+        # The script has made the object 1.
+        client.ask(creations(2 + number * IN_LINE).encode(), number + 1)
+    taken = 1024 * (client.memory()[0] - before)
+    heading(["Objects of one integer field", "bytes each"])
+    print(f"| {lines * IN_LINE:,} | {taken / (lines * IN_LINE):.0f} |", flush=True)
+    client.close()
+
+
 def middle_trip(client, trips):
     """The median time from a line to its answer."""
     taken = []
@@ -188,7 +210,7 @@ def middle_trip(client, trips):
 
 
 def print_trips(given, folder, own):
-    """Prints the third table: own is the time of a line of hipac_live itself."""
+    """Prints the fourth table: own is the time of a line of hipac_live itself."""
     echo = os.path.join(folder, "echo")
     subprocess.run(["gcc", "-O2", "-o", echo, write(folder, "echo.c", ECHO)], check=True)
     live, back = [], []
@@ -208,6 +230,7 @@ def main():
     words.add_argument("hipac", metavar="HIPAC")
     words.add_argument("--times", type=int, default=5, help="how often each command runs")
     words.add_argument("--lines", type=int, default=1_000_000, help="how many lines are sent, 100 or more")
+    words.add_argument("--objects", type=int, default=1_000_000, help=f"how many objects are held, {IN_LINE:,} or more")
     words.add_argument("--trips", type=int, default=10_000, help="how many lines are sent each after the answer before")
     given = words.parse_args()
     for name in ("sqlite3", "gcc"):
@@ -215,10 +238,14 @@ def main():
             words.error(f"{name} is needed and isn't there: it is Debian's package {name}")
     if given.lines < 100:
         words.error("fewer than 100 lines measure nothing")
+    if given.objects < IN_LINE:
+        words.error(f"fewer than {IN_LINE:,} objects measure nothing")
     with tempfile.TemporaryDirectory(prefix="live-") as folder:
         own = print_lines(given, folder)
         print()
         print_memory(given)
+        print()
+        print_objects(given)
         print()
         print_trips(given, folder, own)
 

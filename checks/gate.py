@@ -6,6 +6,7 @@
 The last line is 'N passed, M failed'.
 """
 
+import collections
 import glob
 import os
 import signal
@@ -74,6 +75,7 @@ case $1 in
     mkdir -p crates/hipac/out
     find . -name '*.edit' >"$notes/edits"
     find . -name 'rooms' >"$notes/rooms"
+    if [ -e "$notes/slow" ]; then sleep 300 & wait; fi
     if [ -e "$notes/ci" ]; then cat "$notes/ci"; exit 1; fi
     echo "rt: all is proved"
     echo "7 passed, 0 failed"
@@ -91,6 +93,9 @@ FOLDERS = sorted({name.split("/")[0] for name in UNIT_TESTS})
 # that is made; the unit tests, one of app_tests, and their layout.
 QUICK = 2 * (len(SCRIPTS) - 2) + 5 + len(UNIT_TESTS) + 2
 PROVED = QUICK + 7 + 2 * 7
+
+# How many parts come after the proofs, and fail where these do: the edits and the checks of the proved programs.
+AFTER = 7
 
 # The folders of tests in Python: the part of ./test that runs them, its script, and how many programs it needs.
 PYTHON_TESTS = {
@@ -205,12 +210,15 @@ def proves_all(tree):
     """The gate also counts what `rt ci`, the edits and the checks of the proved programs count. rt ci gets no edit."""
     status, lines, last = tree.run(".ci/run")
     expect((status, last), (0, f"{PROVED} passed, 0 failed"), "\n".join(lines[-30:]))
-    calls = tree.calls()
-    after = [it.split() for it in calls[calls.index("rt ci") + 1 :]]
-    scripts = ("checking", "conditions", "live_sessions", "must_fail", "notation", "programs", "version4")
-    expect(sorted(it[0] for it in after), [f"checks/{name}.py" for name in scripts], after)
-    copy = next(it[-1] for it in after if it[0] == "checks/must_fail.py")
-    expect([it[1:] for it in after if "--proved" in it], [["--proved", f"{copy}/crates/hipac/out/hipac"]],
+    calls = [it.split() for it in tree.calls()]
+    counts = collections.Counter(it[0] for it in calls)
+    names = ("checking", "conditions", "live_sessions", "notation", "programs", "version4")
+    twice = [f"checks/{name}.py" for name in names]
+    expect([it for it in sorted(counts) if it in twice and counts[it] == 2], twice, calls)
+    edits = [it for it in calls if it[0] == "checks/must_fail.py"]
+    copy = edits[0][-1]
+    expect([it[3:] for it in edits], [["--follow", os.path.join(tree.top, ".built/test/rt_ci.log"), copy]], "edits")
+    expect([it[1:] for it in calls if "--proved" in it], [["--proved", f"{copy}/crates/hipac/out/hipac"]],
            "the check of the proved program")
     expect(text_of(os.path.join(tree.notes, "edits")), "", "the edits that rt ci finds")
 
@@ -262,20 +270,23 @@ def catches_missing_programs(tree):
 
 
 def proves_nothing_in_vain(tree):
-    """Nothing is proved where a quick check has failed."""
+    """The proofs are ended where a quick check has failed, and nothing that follows them is run."""
     tree.note("more_edits.py", "1\nFAILED an edit\n5 passed, 1 failed\n")
-    expect_failure(tree, ["./test", "--prove"], (QUICK - 2 + 5, 1), "FAILED an edit")
-    expect([it for it in tree.calls() if it.startswith("rt ci")], [], "calls of rt ci")
+    tree.note("slow", "")
+    counts = QUICK - 2 + 5, 2 + AFTER
+    expect_failure(tree, ["./test", "--prove"], counts, "FAILED an edit")
+    expect_failure(tree, ["./test", "--prove"], counts, "FAILED rt_ci: ended, since this failed: edits_apply")
+    expect([it for it in tree.calls() if "must_fail" in it or "--proved" in it], [], "what follows the proofs")
 
 
 def catches_proofs(tree):
     """What `rt ci` refuses counts and is shown, with the reasons that follow; no proved program is checked then."""
     why = "rt: hp_low/x.edit: BAD EDIT; the first lines of what it said:"
     tree.note("ci", f"rt: low proved\n{why}\na reason\n5 passed, 2 failed\n")
-    expect_failure(tree, ["./test", "--prove"], (QUICK + 5, 2), "a reason")
+    expect_failure(tree, ["./test", "--prove"], (QUICK + 5, 2 + AFTER), "a reason")
     expect([it for it in tree.calls() if "--proved" in it], [], "checks of the proved program")
     tree.note("ci", "rt: low proved\n")
-    expect_failure(tree, ["./test", "--prove"], (QUICK, 1), "no count")
+    expect_failure(tree, ["./test", "--prove"], (QUICK, 1 + AFTER), "it said no count")
 
 
 def catches_wrong_reports(tree):

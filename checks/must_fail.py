@@ -1,9 +1,11 @@
 #!/usr/bin/env python3
 """Tries the edits of crates/NAME/must-fail: the prover must refuse each of them.
 
-    checks/must_fail.py [--minutes N] FOLDER [NAME ..]
+    checks/must_fail.py [--minutes N] [--follow LOG] FOLDER [NAME ..]
 
-FOLDER is a copy of this repository in which `rt ci` has proved all crates. Its libraries are used as they are. The
+FOLDER is a copy of this repository in which `rt ci` has proved all crates. Its libraries are used as they are. With
+--follow `rt ci` is still at work there and writes to LOG: the edits of a crate are tried once the crates below it are
+proved, with half of the processors, which `rt ci` has first if it wants them. The
 edits of a crate that change different functions are tried in one check, which looks at these functions and at those
 that they call, and at nothing else: each function is proved against the contracts of the others. An edit is refused if
 the prover complains of the function that it changes. What that doesn't show to be refused is then tried alone, in a
@@ -11,15 +13,17 @@ check of the whole crate, as is an edit of a definition.
 
 An edit isn't counted as refused if the prover complains only of a proof that names what the edit took away, or of a
 search that ended at a limit, or if it can't read the edit: then no contract was shown to fail. As many crates are tried
-side by side as there are processors, quick ones first. With --minutes no check begins after so many minutes, and the
-edits that are left are told. The last line is 'N passed, M failed': an edit has failed if the crate is still proved
-with it.
+side by side as there are processors, and memory for them, quick ones first. With --minutes no check begins after so
+many minutes, and the edits that are left are told. The last line is 'N passed, M failed': an edit has failed if the
+crate is still proved with it.
 """
 
 import argparse
 import concurrent.futures
+import contextlib
 import math
 import os
+import re
 import shutil
 import subprocess
 import sys
@@ -36,17 +40,58 @@ NO_SUCH_PLACE = 2
 
 PROCESSORS = len(os.sched_getaffinity(0))
 
+# The memory, in kB, that must be free when a check begins: each takes up to 4 GB.
+FREE_MEMORY = 8_000_000
+
+# Seconds between two looks at what `rt ci` has proved.
+PAUSE = 5
+
+
+def free_memory():
+    """The memory that is free, in kB."""
+    return int(re.search(r"MemAvailable:\s+(\d+)", text_of("/proc/meminfo")).group(1))
+
+
+class Proofs:
+    """What `rt ci` has proved so far, by its log; everything, if there is none to follow."""
+
+    def __init__(self, log):
+        self.log, self.done, self.has_ended = log, set(), log is None
+
+    def read(self):
+        """Reads what the log says by now."""
+        if not self.has_ended:
+            said = text_of(self.log)
+            self.done = set(re.findall(r"(?m)^rt: (\w+) (?:proved|is kept)\b", said))
+            self.has_ended = repo.count_in(said) is not None
+
+    def has_all(self, names):
+        """Whether these crates are proved."""
+        return self.has_ended or self.done.issuperset(names)
+
 
 class Proved:
-    """The crates of a folder in which `rt ci` has built the libraries."""
+    """The crates of a folder in which `rt ci` builds the libraries, or has built them."""
 
-    def __init__(self, folder, minutes=math.inf):
+    def __init__(self, folder, minutes=math.inf, log=None):
         self.top, self.kit, self.known = folder, repo.toolchain(), repo.crates(folder)
         self.end = time.monotonic() + 60 * minutes
+        self.proofs = Proofs(log)
 
     def has_time(self):
         """Whether a check may begin."""
         return time.monotonic() < self.end
+
+    def is_ready(self, name):
+        """Whether the edits of a crate can be tried: the crates below it are proved. (Without time, all are told.)"""
+        below = repo.with_used(self.known[name].uses, self.known)
+        return self.proofs.has_all(below) or not self.has_time()
+
+    def has_place(self, at_work):
+        """Whether a crate may begin beside so many: a processor and memory are free for it."""
+        processors = PROCESSORS if self.proofs.has_ended else max(1, PROCESSORS // 2)
+        is_alone = at_work == 0 and self.proofs.has_ended
+        return at_work < processors and (is_alone or free_memory() >= FREE_MEMORY)
 
     def rlib(self, name):
         return os.path.join(self.top, "crates", name, "out", "rlib", f"{name}.rlib")
@@ -145,25 +190,50 @@ def tell(tries):
     return kinds.count(REFUSED), kinds.count(PROVED)
 
 
+def give_way():
+    """Leaves the processors to others that want them, also where Linux shares them between sessions."""
+    os.nice(19)
+    with contextlib.suppress(OSError), open("/proc/self/autogroup", "w", encoding="ascii") as file:
+        file.write("19")
+
+
+def in_turn(proved, crates):
+    """Tries the edits of these crates, each once it is ready, in order where several are. Gives the tries of each."""
+    left, at_work = list(crates), set()
+    with concurrent.futures.ThreadPoolExecutor(PROCESSORS) as pool:
+        while left or at_work:
+            proved.proofs.read()
+            ready = [name for name in left if proved.is_ready(name)]
+            if ready and proved.has_place(len(at_work)):
+                left.remove(ready[0])
+                at_work.add(pool.submit(Tries(proved, ready[0]).run))
+            if not at_work:
+                time.sleep(PAUSE)
+                continue
+            done, at_work = concurrent.futures.wait(at_work, PAUSE, concurrent.futures.FIRST_COMPLETED)
+            yield from (it.result() for it in done)
+
+
 def words_of_command():
     """The words of the command line."""
     parser = argparse.ArgumentParser(description=__doc__, formatter_class=argparse.RawDescriptionHelpFormatter)
     parser.add_argument("folder", metavar="FOLDER")
     parser.add_argument("crates", nargs="*", metavar="NAME", choices=[*repo.crates(), []])
     parser.add_argument("--minutes", type=float, default=math.inf, metavar="N")
+    parser.add_argument("--follow", metavar="LOG")
     return parser.parse_args()
 
 
 def main():
     words = words_of_command()
-    proved = Proved(os.path.abspath(words.folder), words.minutes)
+    if words.follow:
+        give_way()
+    proved = Proved(os.path.abspath(words.folder), words.minutes, words.follow)
     crates = words.crates or [name for name in proved.known if repo.edits(name, repo.GATE_EDITS)]
     passed, failed = 0, 0
-    with concurrent.futures.ThreadPoolExecutor(PROCESSORS) as pool:
-        running = [pool.submit(Tries(proved, crate).run) for crate in sorted(crates, key=repo.cost_of)]
-        for one in concurrent.futures.as_completed(running):
-            refused, others = tell(one.result())
-            passed, failed = passed + refused, failed + others
+    for tries in in_turn(proved, sorted(crates, key=repo.cost_of)):
+        refused, others = tell(tries)
+        passed, failed = passed + refused, failed + others
     print(f"{passed} passed, {failed} failed")
     return 1 if failed else 0
 

@@ -10,9 +10,9 @@ import subprocess
 import sys
 import threading
 import time
-from collections.abc import Mapping
+from collections.abc import Callable, Mapping
 from dataclasses import dataclass, field
-from typing import Optional
+from typing import Optional, TextIO
 
 import repo
 import running
@@ -32,6 +32,17 @@ MOST_OF_FAILURE = 12
 MOST_OF_PART = 60
 
 
+def telling_lines(said: str) -> list[str]:
+    """The lines of what a part said that tell why it failed: each failure with what follows it, or else the end."""
+    lines, found, left = said.rstrip("\n").split("\n"), [], 0
+    for line in lines:
+        left = MOST_OF_FAILURE if TELLS.search(line) else left
+        if left > 0 and line.strip():
+            found.append(line)
+        left -= 1
+    return (found or lines[-20:])[:MOST_OF_PART]
+
+
 @dataclass(frozen=True)
 class Part:
     """A part of a test run."""
@@ -46,6 +57,11 @@ class Part:
     # The folder that it runs in, below the top, and variables of its environment.
     folder: str = "."
     variables: Mapping[str, str] = field(default_factory=dict)
+    # Whether its lines are shown as they come, and the parts whose failure ends it, or keeps it from starting.
+    is_shown: bool = False
+    ended_by: tuple[str, ...] = ()
+    # What finds the lines that tell of failures in what it said.
+    telling: Callable[[str], list[str]] = telling_lines
 
 
 @dataclass(frozen=True)
@@ -81,15 +97,9 @@ def unittest_count(said: str) -> Optional[tuple[int, int]]:
     return every - failed, failed
 
 
-def telling_lines(said: str) -> list[str]:
-    """The lines of what a part said that tell why it failed: each failure with what follows it, or else the end."""
-    lines, found, left = said.rstrip("\n").split("\n"), [], 0
-    for line in lines:
-        left = MOST_OF_FAILURE if TELLS.search(line) else left
-        if left > 0 and line.strip():
-            found.append(line)
-        left -= 1
-    return (found or lines[-20:])[:MOST_OF_PART]
+def log_of(name: str) -> str:
+    """The file that keeps what a part says."""
+    return os.path.join(LOGS, f"{name}.log")
 
 
 def is_there(package: str) -> bool:
@@ -111,7 +121,8 @@ class Run:
         self.results: dict[str, Result] = {}
         self.installs = installs and os.geteuid() == 0 and shutil.which("apt-get") is not None
         self.commands: dict[str, subprocess.Popen] = {}
-        self.is_stopped = False
+        # The parts that were ended early, each with the part that had failed.
+        self.ended: dict[str, str] = {}
         os.makedirs(LOGS, exist_ok=True)
 
     def say(self, text: str) -> None:
@@ -141,11 +152,20 @@ class Run:
                 continue
             at_work.remove(part.name)
             self.add(part.name, result, f"{len(parts) - len(left) - len(at_work)} of {len(parts)} parts")
+            if result.failed:
+                self.end_early([it for it in parts if it.name in at_work], part.name)
             told = time.monotonic()
 
     def startable(self, left: list[Part], names: list[str]) -> list[Part]:
         """The parts that can start, in order: nothing that they need is still to end."""
         return [part for part in left if all(it in self.results for it in part.needs if it in names)]
+
+    def end_early(self, parts: list[Part], failed: str) -> None:
+        """Ends those of these parts that this failure ends."""
+        for part in parts:
+            if failed in part.ended_by and part.name in self.commands and part.name not in self.ended:
+                self.ended[part.name] = failed
+                running.stop_group(self.commands[part.name])
 
     def add(self, name: str, result: Result, so_far: str) -> None:
         """Notes what came of a part, and says it."""
@@ -163,7 +183,8 @@ class Run:
         lacking = [it for it in part.packages if not is_there(it)]
         if lacking:
             return Result(0, 1, [f"FAILED {part.name}: lacks packages: apt-get install {' '.join(lacking)}"])
-        failed = [it for it in part.needs if it in self.results and self.results[it].failed]
+        needs = [it for it in (*part.needs, *part.ended_by) if it in self.results]
+        failed = [it for it in needs if self.results[it].failed]
         if failed:
             return Result(0, 1, [f"FAILED {part.name}: not run, since this failed: {' '.join(failed)}"])
         begun = time.monotonic()
@@ -171,23 +192,38 @@ class Run:
             status, said, work = self.run_command(part)
         except OSError as error:
             return Result(0, 1, [f"FAILED {part.name}: {error}"])
-        passed, failures = count_of(part, said, status)
         seconds = time.monotonic() - begun
+        if part.name in self.ended:
+            why = f"FAILED {part.name}: ended, since this failed: {self.ended[part.name]}"
+            return Result(0, 1, [why], seconds, work)
+        passed, failures = count_of(part, said, status)
         if not failures:
             return Result(passed, 0, [], seconds, work)
-        return Result(passed, failures, [f"FAILED {part.name}: status {status}", *telling_lines(said)], seconds, work)
+        return Result(passed, failures, [f"FAILED {part.name}: status {status}", *part.telling(said)], seconds, work)
 
     def run_command(self, part: Part) -> tuple[int, str, float]:
         """Runs a part's command: its status, what it said, which its log keeps, and the work of processors on it."""
-        log = os.path.join(LOGS, f"{part.name}.log")
+        log = log_of(part.name)
         with open(log, "w", encoding="utf-8") as file:
             where = os.path.join(repo.TOP, part.folder)
-            command = running.start(part.words, cwd=where, env={**os.environ, **part.variables}, stdout=file,
-                                    stderr=subprocess.STDOUT, start_new_session=True)
+            command = running.start(part.words, cwd=where, env={**os.environ, **part.variables},
+                                    stdout=subprocess.PIPE if part.is_shown else file, stderr=subprocess.STDOUT,
+                                    text=True, errors="replace", start_new_session=True)
             self.commands[part.name] = command
+            if part.is_shown:
+                self.show(command, file)
             work = running.wait_and_measure(command)
         with open(log, encoding="utf-8", errors="replace") as read:
             return command.returncode, read.read(), work
+
+    def show(self, command: subprocess.Popen, log: TextIO) -> None:
+        """Shows a command's lines as they come, those of `rt` with the minute. Its log keeps them, and its count."""
+        for line in running.lines_of(command):
+            text = line.rstrip("\n")
+            shown = f"{text} (minute {self.minute()})" if text.startswith("rt: ") else text
+            print(shown, file=log, flush=True)
+            if not repo.count_in(text):
+                print(shown, flush=True)
 
     def install(self, packages: list[str]) -> None:
         """Installs those of these packages that are not there, if this run may."""

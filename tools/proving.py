@@ -1,16 +1,13 @@
-"""Runs `rt ci` as a part of a test run, and shows what it says as it comes."""
+"""`rt ci` as a part of a test run."""
 
 from __future__ import annotations
 
 import os
 import re
 import shutil
-import subprocess
-import time
 
 import repo
-import running
-from parts import LOGS, Result, Run
+from parts import Part
 
 # How many checks run at a time, at most: each takes up to 4 GB.
 MOST_JOBS = 4
@@ -26,27 +23,22 @@ REASONS = 7
 MOST_LINES = 100
 
 
-class Listener:
-    """Hears what `rt ci` says, line by line, and keeps its verdict and the lines that tell of a failure."""
-
-    def __init__(self) -> None:
-        self.failures: list[str] = []
-        self.verdict = ""
-        # How many of the next lines belong to a failure.
-        self.left = 0
-
-    def hear(self, line: str) -> None:
-        if repo.count_in(line):
-            self.verdict = line
+def failures_in(said: str) -> list[str]:
+    """The lines of what `rt ci` said that tell of a failure, with the reasons that follow them."""
+    found, left = [], 0
+    for line in said.splitlines():
         if line.startswith("rt: "):
-            self.left = 0
+            left = 0
         if REASONS_FOLLOW.search(line):
-            self.left = REASONS
+            left = REASONS
         elif FAILURES.search(line):
-            self.left = max(self.left, 1)
-        if self.left > 0:
-            self.left -= 1
-            self.failures.append(line)
+            left = max(left, 1)
+        if left > 0:
+            left -= 1
+            found.append(line)
+    if not repo.count_in(said):
+        found.append("it said no count")
+    return found[:MOST_LINES]
 
 
 # What a copy of the repository leaves out: what git doesn't see, and the edits that checks/must_fail.py tries.
@@ -61,30 +53,9 @@ def copied(to: str) -> str:
     return to
 
 
-def prove(run: Run, crates: list[str], room: str) -> str:
-    """Runs `rt ci` on a copy in a folder, on these crates alone if there are any, and adds its count to the run. Gives
-    the copy."""
-    folder = copied(os.path.join(room, "copy"))
+def part(folder: str, crates: list[str], ended_by: tuple[str, ...]) -> Part:
+    """The part that runs `rt ci` on a copy, on these crates alone if there are any."""
     processors = len(os.sched_getaffinity(0))
     variables = {"RT_JOBS": str(min(processors, MOST_JOBS)), **os.environ}
-    run.say(f"rt ci {' '.join(crates)}".rstrip() + f", {variables['RT_JOBS']} checks at a time")
-    begun, listener = time.monotonic(), Listener()
-    how = {"stdout": subprocess.PIPE, "stderr": subprocess.STDOUT, "text": True, "errors": "replace"}
-    how.update(cwd=folder, env=variables, start_new_session=True)
-    proving = run.commands["rt_ci"] = running.start(["rt", "ci", *crates], **how)
-    with open(os.path.join(LOGS, "rt_ci.log"), "w", encoding="utf-8") as log:
-        for line in running.lines_of(proving):
-            line = line.rstrip("\n")
-            listener.hear(line)
-            shown = f"{line} (minute {run.minute()})" if line.startswith("rt: ") else line
-            print(shown, file=log, flush=True)
-            if line != listener.verdict:
-                print(shown, flush=True)
-    work = running.wait_and_measure(proving)
-    status = proving.returncode
-    passed, failed = repo.count_in(listener.verdict) or (0, 0)
-    lines = [f"FAILED rt ci: status {status}; it said: {listener.verdict or 'no count'}", *listener.failures]
-    if not failed and (status != 0 or not listener.verdict):
-        failed = 1
-    run.add("rt_ci", Result(passed, failed, lines[:MOST_LINES], time.monotonic() - begun, work), "proofs")
-    return folder
+    return Part("rt_ci", ["rt", "ci", *crates], folder=folder, variables=variables, is_shown=True, ended_by=ended_by,
+                telling=failures_in)

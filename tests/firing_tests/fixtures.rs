@@ -42,7 +42,7 @@ fn balance_is(alloc: Global, balance: i64) -> Result<Vec<Assignment>, AllocError
     let mut pairs = Vec::new(alloc);
     pairs.push(Assignment {
         field: text(alloc, "bal")?,
-        value: number(alloc, balance)?,
+        value: Expr::literal(Value::Int(balance)),
     })?;
     Ok(pairs)
 }

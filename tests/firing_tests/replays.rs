@@ -28,7 +28,7 @@ fn one_more(alloc: Global) -> Result<Vec<Assignment>, AllocError> {
     let mut pairs = Vec::new(alloc);
     pairs.push(Assignment {
         field: text(alloc, "bal")?,
-        value: Box::new(alloc, sum)?,
+        value: sum,
     })?;
     Ok(pairs)
 }

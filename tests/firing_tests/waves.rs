@@ -128,7 +128,7 @@ fn computed(alloc: Global, deed: Deed) -> Result<Vec<Assignment>, AllocError> {
     let mut pairs = Vec::new(alloc);
     pairs.push(Assignment {
         field: text(alloc, "bal")?,
-        value: Box::new(alloc, value)?,
+        value,
     })?;
     Ok(pairs)
 }
@@ -528,7 +528,9 @@ fn sums_into(alloc: Global, account: Key) -> Result<Vec<Stmt>, AllocError> {
     let mut pairs = Vec::new(alloc);
     pairs.push(Assignment {
         field: text(alloc, "bal")?,
-        value: value_of(alloc, "sum")?,
+        value: Expr::ValueOf {
+            name: text(alloc, "sum")?,
+        },
     })?;
     let update = Stmt::Update {
         class: 0,
@@ -576,7 +578,9 @@ fn numbering(alloc: Global) -> Result<Library, CheckError> {
         let mut pairs = Vec::new(alloc);
         pairs.push(Assignment {
             field: text(alloc, "bal")?,
-            value: value_of(alloc, "key")?,
+            value: Expr::ValueOf {
+                name: text(alloc, "key")?,
+            },
         })?;
         let create = Stmt::Create {
             class: 0,

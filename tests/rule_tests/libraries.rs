@@ -242,7 +242,7 @@ fn create(alloc: Global, class: u32, fields: &[&str]) -> Result<Stmt, AllocError
     for field in fields {
         pairs.push(Assignment {
             field: text(alloc, *field)?,
-            value: number(alloc, 1)?,
+            value: Expr::literal(Value::Int(1)),
         })?;
     }
     Ok(Stmt::Create {

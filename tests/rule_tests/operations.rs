@@ -235,7 +235,7 @@ fn assignments(alloc: Global, field: &str, number: bool) -> Result<Vec<Assignmen
     let mut pairs = Vec::new(alloc);
     pairs.push(Assignment {
         field: text(alloc, field)?,
-        value: Box::new(alloc, Expr::literal(value))?,
+        value: Expr::literal(value),
     })?;
     Ok(pairs)
 }

@@ -2,7 +2,8 @@
 
 use super::fixtures::library;
 use hp_report::{ReadFault, Report, Sink, Source, Watched, read_up_to, write_report, write_text};
-use hp_tree::{Ending, Item, Objects, TopReport, UnitReport};
+use hp_store::Store;
+use hp_tree::{Ending, Item, TopReport, UnitReport};
 use hp_value::Value;
 use std::alloc::Global;
 use std::io;
@@ -135,8 +136,7 @@ fn small_report(alloc: Global) -> Result<Report, Fail> {
     Ok(Report {
         library: Arc::new(alloc, library)?,
         units,
-        objects: Objects::new(alloc),
-        statuses: Vec::new(alloc),
+        store: Store::empty(alloc)?,
     })
 }
 

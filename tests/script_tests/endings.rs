@@ -1,39 +1,49 @@
-//! The final state: statuses from the store, and objects from the trees.
+//! The lines of a store's state.
 
 use super::fixtures::library;
-use hp_report::{RuleStatus, final_state};
+use hp_report::{class_text, object_text, state_text};
 use hp_rule::Library;
-use hp_store::{CellValue, Layer, Store};
-use hp_tree::{Ending, Item, Operation, TopReport, UnitReport};
-use hp_value::{Cause, Cell, Key, Row};
+use hp_store::{CellValue, Layer, Status, Store};
+use hp_value::{Cell, ClassDef, ClassNo, Key, Row};
 use std::alloc::Global;
-use std::process::Abort;
 use std::sync::Arc;
 use std::test::Fail;
 
-/// A top-level transaction that creates an object of a class without fields.
-fn creates(alloc: Global, key: Key, end: Ending) -> Result<TopReport, Fail> {
-    let fields = Arc::new(alloc, Vec::new(alloc))?;
-    let mut tree = Vec::new(alloc);
-    tree.push(Item::Operation(Operation::Create {
-        class: 0,
-        key,
-        new: Row::new(alloc, &fields, Vec::new(alloc).into())?,
-    }))?;
-    Ok(TopReport {
-        task: None,
-        end,
-        tree,
-    })
+/// A library of three classes without fields and of three rules.
+fn classes_and_rules(alloc: Global) -> Result<Library, Fail> {
+    let mut classes = Vec::new(alloc);
+    for name in ["acct", "bill", "cell"] {
+        classes.push(ClassDef {
+            name: String::from_str(alloc, name)?,
+            fields: Arc::new(alloc, Vec::new(alloc))?,
+        })?;
+    }
+    Ok(library(alloc, classes, &["first", "second", "third"])?)
 }
 
-/// A store in which the first rule is disabled, the second absent, and the third enabled.
-fn store(alloc: Global) -> Result<Store, Fail> {
+/// A change that makes an object of a class without fields, or deletes it.
+fn change(alloc: Global, is_made: bool) -> Result<Option<CellValue>, Fail> {
+    if !is_made {
+        return Ok(None);
+    }
+    let fields = Arc::new(alloc, Vec::new(alloc))?;
+    Ok(Some(CellValue::Row(Row::new(alloc, &fields, Vec::new(alloc).into())?)))
+}
+
+/// A layer that makes and deletes these objects.
+fn layer(alloc: Global, objects: &[(ClassNo, Key, bool)]) -> Result<Layer, Fail> {
     let mut layer = Layer::new(alloc);
-    for (rule, status) in [
-        (0, hp_store::Status::Disabled),
-        (2, hp_store::Status::Enabled),
-    ] {
+    for (class, key, is_made) in objects {
+        let _ = layer.insert(Cell::Object(*class, *key), change(alloc, *is_made)?)?;
+    }
+    Ok(layer)
+}
+
+/// A store with objects of the first and the last class, in which the first rule is disabled, the second absent, and
+/// the third enabled.
+fn store(alloc: Global) -> Result<Store, Fail> {
+    let mut layer = layer(alloc, &[(2, 5, true), (0, 7, true), (0, -1, true)])?;
+    for (rule, status) in [(0, Status::Disabled), (2, Status::Enabled)] {
         let _ = layer.insert(Cell::Rule(rule), Some(CellValue::Status(status)))?;
     }
     let mut store = Store::empty(alloc)?;
@@ -41,38 +51,38 @@ fn store(alloc: Global) -> Result<Store, Fail> {
     Ok(store)
 }
 
-/// A unit with a transaction that committed, and then one that aborted.
-fn units(alloc: Global) -> Result<Vec<UnitReport>, Fail> {
-    let mut tops = Vec::new(alloc);
-    tops.push(creates(alloc, 7, Ending::Committed)?)?;
-    tops.push(creates(alloc, 8, Ending::Aborted(Cause::Asked))?)?;
-    Ok(vec![in alloc; UnitReport { moment: None, tops }]?)
-}
+const RULES: &str = "rule first disabled
+rule second absent
+rule third enabled
+";
 
-fn check_final(
-    rt: &impl Abort,
-    alloc: Global,
-    library: &Library,
-    store: &Store,
-    units: &[UnitReport],
-) -> Result<(), Fail> {
-    let (objects, statuses) = final_state(alloc, library, store, units)?;
-    assert_eq!(rt; objects.len(), 1);
-    assert!(rt; objects.get(0, 7).is_some());
-    let wanted = [
-        RuleStatus::Disabled,
-        RuleStatus::Absent,
-        RuleStatus::Enabled,
-    ];
-    assert_eq!(rt; statuses.as_slice(), wanted.as_slice());
+#[test]
+fn a_state_has_all_classes_in_order(rt: HostRuntime) -> Result<(), Fail> {
+    let alloc = rt.alloc();
+    let library = classes_and_rules(alloc)?;
+    let text = state_text(alloc, &library, &store(alloc)?)?;
+    let (objects, rules) = text.as_str().split_at(text.len() - RULES.len());
+    assert_eq!(rt; objects, "object acct -1\nobject acct 7\nobject cell 5\n");
+    assert_eq!(rt; rules, RULES);
     Ok(())
 }
 
 #[test]
-fn statuses_of_the_store_and_objects_of_what_committed(rt: HostRuntime) -> Result<(), Fail> {
+fn changes_over_a_held_snapshot_are_in_the_state(rt: HostRuntime) -> Result<(), Fail> {
     let alloc = rt.alloc();
-    let library = library(alloc, Vec::new(alloc), &["first", "second", "third"])?;
-    let store = store(alloc)?;
-    let units = units(alloc)?;
-    check_final(&rt, alloc, &library, &store, &units)
+    let library = classes_and_rules(alloc)?;
+    let mut store = store(alloc)?;
+    let held = store.snapshot()?;
+    let changes = layer(alloc, &[(1, 3, true), (0, 7, false), (2, 5, false)])?;
+    store.apply(alloc, Arc::new(alloc, changes)?)?;
+    assert_eq!(rt; held.layers(), 0);
+    let text = state_text(alloc, &library, &store)?;
+    let objects = text.as_str().split_at(text.len() - RULES.len()).0;
+    assert_eq!(rt; objects, "object acct -1\nobject bill 3\n");
+    assert_eq!(rt;
+        class_text(alloc, &library, &store, 0)?.as_str(),
+        "object acct -1\n"
+    );
+    assert_eq!(rt; object_text(alloc, &library, &store, 2, 5)?.as_str(), "");
+    Ok(())
 }

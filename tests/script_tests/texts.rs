@@ -1,10 +1,12 @@
 //! The text of reports, worked out by hand.
 
 use super::fixtures::library;
-use hp_report::{Report, RuleStatus, Watched, write_report};
-use hp_tree::{ConditionEnd, Ending, Item, Node, Objects, Operation, TopReport, UnitReport, What};
+use hp_report::{Report, Watched, write_report};
+use hp_rule::rule_number;
+use hp_store::{CellValue, Layer, Status, Store};
+use hp_tree::{ConditionEnd, Ending, Item, Node, Operation, TopReport, UnitReport, What};
 use hp_value::{
-    Cause, ClassDef, Coupling, Field, Key, Kind, Row, RuleNo, RuleOperation, Value, Veto,
+    Cause, Cell, ClassDef, Coupling, Field, Key, Kind, Row, RuleNo, RuleOperation, Value, Veto,
 };
 use std::alloc::{AllocError, Global};
 use std::sync::Arc;
@@ -87,12 +89,27 @@ fn veto(alloc: Global, rule: RuleNo, message: Option<Value>) -> Result<Ending, A
     Ok(Ending::Vetoed(Veto::new(alloc, rule, message)?))
 }
 
-fn objects(alloc: Global, classes: &[ClassDef], entries: &[(Key, i64)]) -> Result<Objects, Fail> {
-    let mut objects = Objects::new(alloc);
-    for (key, balance) in entries {
-        objects.insert(0, *key, account(alloc, classes, *balance)?)?;
+/// A store with these objects, whose rules have these statuses; those without one are absent.
+fn store(
+    alloc: Global,
+    classes: &[ClassDef],
+    objects: &[(Key, i64)],
+    statuses: &[Option<Status>],
+) -> Result<Store, Fail> {
+    let mut layer = Layer::new(alloc);
+    for (key, balance) in objects {
+        let row = account(alloc, classes, *balance)?;
+        let _ = layer.insert(Cell::Object(0, *key), Some(CellValue::Row(row)))?;
     }
-    Ok(objects)
+    for (rule, status) in statuses.iter().enumerate() {
+        if let Some(status) = status {
+            let cell = Cell::Rule(rule_number(rule)?);
+            let _ = layer.insert(cell, Some(CellValue::Status(*status)))?;
+        }
+    }
+    let mut store = Store::empty(alloc)?;
+    store.apply(alloc, Arc::new(alloc, layer)?)?;
+    Ok(store)
 }
 
 fn unit(
@@ -178,16 +195,15 @@ fn report(
     rules: &[&str],
     unit: UnitReport,
     objects: &[(Key, i64)],
-    statuses: &[RuleStatus],
+    statuses: &[Option<Status>],
 ) -> Result<Report, Fail> {
     let classes = classes(alloc)?;
-    let objects = self::objects(alloc, &classes, objects)?;
+    let store = store(alloc, &classes, objects, statuses)?;
     let library = library(alloc, classes, rules)?;
     Ok(Report {
         library: Arc::new(alloc, library)?,
         units: vec![in alloc; unit]?,
-        objects,
-        statuses: statuses.to_vec(alloc)?,
+        store,
     })
 }
 
@@ -202,7 +218,7 @@ fn written(alloc: Global, report: &Report, with_tree: bool) -> Result<String, Fa
 fn shows_the_depth_limit(rt: HostRuntime) -> Result<(), Fail> {
     let alloc = rt.alloc();
     let unit = depth_limit(alloc, &classes(alloc)?)?;
-    let report = report(alloc, &["up"], unit, &[(1, 3)], &[RuleStatus::Enabled])?;
+    let report = report(alloc, &["up"], unit, &[(1, 3)], &[Some(Status::Enabled)])?;
     assert_eq!(rt; written(alloc, &report, true)?.as_str(), DEPTH_LIMIT);
     Ok(())
 }
@@ -231,7 +247,7 @@ end
 fn shows_a_cascade(rt: HostRuntime) -> Result<(), Fail> {
     let alloc = rt.alloc();
     let unit = kept_answers(alloc, &classes(alloc)?)?;
-    let statuses = [RuleStatus::Enabled, RuleStatus::Enabled];
+    let statuses = [Some(Status::Enabled), Some(Status::Enabled)];
     let report = report(alloc, &["m", "z"], unit, &[(1, 7)], &statuses)?;
     assert_eq!(rt; written(alloc, &report, true)?.as_str(), KEPT_ANSWERS);
     Ok(())
@@ -310,7 +326,7 @@ fn others(alloc: Global) -> Result<UnitReport, Fail> {
 fn shows_each_other_kind_of_line(rt: HostRuntime) -> Result<(), Fail> {
     let alloc = rt.alloc();
     let objects = [(10, 4), (2, 3), (-3, i64::MIN), (-20, 1)];
-    let statuses = [RuleStatus::Disabled, RuleStatus::Absent];
+    let statuses = [Some(Status::Disabled), None];
     let report = report(alloc, &["up", "down"], others(alloc)?, &objects, &statuses)?;
     assert_eq!(rt; written(alloc, &report, true)?.as_str(), OTHER_LINES);
     assert_eq!(rt; written(alloc, &report, false)?.as_str(), WITHOUT_TREE);
@@ -375,7 +391,7 @@ fn messages(alloc: Global) -> Result<UnitReport, Fail> {
 #[test]
 fn shows_a_message_wherever_its_cause_stands(rt: HostRuntime) -> Result<(), Fail> {
     let alloc = rt.alloc();
-    let statuses = [RuleStatus::Enabled, RuleStatus::Enabled];
+    let statuses = [Some(Status::Enabled), Some(Status::Enabled)];
     let report = report(alloc, &["up", "down"], messages(alloc)?, &[], &statuses)?;
     assert_eq!(rt; written(alloc, &report, true)?.as_str(), MESSAGES);
     Ok(())

@@ -21,14 +21,14 @@ fn number(alloc: Global, n: i64) -> Result<Box<Expr>, AllocError> {
 }
 
 // The assignment of a balance.
-fn balance_is(alloc: Global, value: Box<Expr>) -> Result<Vec<Assignment>, AllocError> {
+fn balance_is(alloc: Global, value: Expr) -> Result<Vec<Assignment>, AllocError> {
     let field = text(alloc, "bal")?;
     Ok(vec![in alloc; Assignment { field, value }]?)
 }
 
 // Creates an account with the balance 0.
 fn make(alloc: Global, key: Key) -> Result<Stmt, AllocError> {
-    let pairs = balance_is(alloc, number(alloc, 0)?)?;
+    let pairs = balance_is(alloc, Expr::literal(Value::Int(0)))?;
     Ok(Stmt::Create {
         class: 0,
         key: number(alloc, key)?,
@@ -46,10 +46,9 @@ fn balance_of_x(alloc: Global) -> Result<Box<Expr>, AllocError> {
 }
 
 // The balance of x plus 1.
-fn sum(alloc: Global) -> Result<Box<Expr>, AllocError> {
+fn sum(alloc: Global) -> Result<Expr, AllocError> {
     let balance = balance_of_x(alloc)?;
-    let sum = Expr::Arithmetic(Arithmetic::Plus, balance, number(alloc, 1)?);
-    Ok(Box::new(alloc, sum)?)
+    Ok(Expr::Arithmetic(Arithmetic::Plus, balance, number(alloc, 1)?))
 }
 
 // Sets an account's balance to that of x plus 1.

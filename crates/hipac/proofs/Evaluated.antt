@@ -1,54 +1,45 @@
 -- A script's text, from the reports of its units and the final state.
-use Rattle.std.proofs.Common.{◌≡◌, refl, sym, ap, subst, ◌∙◌, List, [], ◌∷◌, ◌++◌, map, take, length, ℕ, Bool, true, false, Result, Ok, Err, codes, arith}
+use Rattle.std.proofs.Common.{◌≡◌, refl, sym, ap, subst, ◌∙◌, List, ℕ, Bool, true, false, Result, Ok, Err, length, arith}
 use Rattle.std.proofs.lemmas.List.{take_all}
-use Rattle.hp_model.specs.State as S
-use Rattle.hp_model.specs.State.{State, RuleState, Objects, initial_state, with_status}
+use Rattle.hp_model.specs.State.{initial_state}
 use Rattle.hp_model.specs.Cascade.{Script, UnitReport, run_units, evaluate}
 use Rattle.hp_model.specs.Cells.{Cells}
 use Rattle.hp_model.specs.Soundness.{LeadsTo}
-use Rattle.hp_model.specs.Laws.{replay_units}
-use Rattle.hp_model.specs.Report.{Bytes, line, units_text, objects_text, report_text}
+use Rattle.hp_model.specs.Report.{Bytes, report_text}
 use Rattle.hp_model.specs.Refusals.{Decoded}
 use Rattle.hp_model.specs.Decode.{script_of}
 use Rattle.hp_model.specs.TextScripts.{PlacedRefusal, script_of_text}
 use Rattle.hp_model.specs.Output.{refusal_text, text_of, placed_refusal_text, text_of_notation, output}
-use Rattle.hp_report.specs.declared.report.RuleStatus.{RuleStatus}
-use Rattle.hp_report.specs.Mapped.{status, rule_state}
-use Rattle.hp_report.specs.Ending.{AreFinal, statuses}
-use Rattle.hp_report.specs.Text.{final_text}
-use Rattle.hp_report.proofs.Ends.{same_rules}
+use Rattle.hp_rule.specs.Mapped.{library}
+use Rattle.hp_store.specs.Stack.{cells_in}
+use Rattle.hp_report.specs.declared.report.Report.{Report}
+use Rattle.hp_report.specs.Mapped.{evaluation}
+use Rattle.hp_report.specs.Stored.{OfEach}
 use Rattle.hp_report.specs.declared.status.Status.TheVariants.{Reported, Refused}
-use Rattle.hp_top.specs.Units.{RanUnits, AreReplayed, IsOpening}
+use Rattle.hp_top.specs.Units.{RanUnits, IsOpening}
 use Rattle.hp_notation.specs.Readings.{told, script_in}
 use Rattle.hp_notation.proofs.Told.{told_ok}
-use Rattle.hipac.specs.Ends.{status_for, status_of}
+use Rattle.hipac.specs.Ends.{status_for, status_of, IsReportOf}
 
--- the statuses of rules without a past
-shown : (ss : List RuleStatus) → statuses (map rule_state ss) ≡ map status ss
-shown [] = refl
-shown (s ∷ ss) = ap (λ (l : List S.Status). status s ∷ l) (shown ss)
-
--- all units ran, so the reports and the final state give the script's text
-pub whole_text : (script : Script) (before after : Cells) (reports : List UnitReport) (objects : Objects) (ss : List RuleStatus) (with_tree : Bool)
-    → IsOpening before → RanUnits script.library script.units before after reports → AreReplayed script.library script.units before reports
-    → length reports ≡ length script.units → AreFinal script.library after reports objects (map status ss)
-    → text_of with_tree (Ok script) ≡ report_text script.library with_tree (record { units = reports; state = record { objects = objects; rules = map rule_state ss } })
-whole_text script before after reports objects ss with_tree opening ran replayed all final =
+-- all units ran, so the reports and the cells are those of the script
+pub all_ran : (script : Script) (before after : Cells) (reports : List UnitReport)
+    → IsOpening before → RanUnits script.library script.units before after reports → length reports ≡ length script.units
+    → LeadsTo script.library (evaluate script).units (evaluate script).state reports after
+all_ran script before after reports opening ran all =
     let library = script.library in
     let start = initial_state library in
+    subst (λ us. LeadsTo library (run_units library us start).units (run_units library us start).state reports after) (take_all (length reports) script.units (omega (arith, all)))
+    (ran.from start (opening.ordered library) (opening.cells library))
+
+-- what holds of the text of each state that has the cells holds of the script's text
+pub of_script : (report : Report) (script : Script) (with_tree : Bool) (Holds : Bytes → Type 0) → IsReportOf report script
+    → OfEach (library report.library.value) (cells_in report.store) (λ S. Holds (report_text (library report.library.value) with_tree (evaluation report S)))
+    → Holds (text_of with_tree (Ok script))
+of_script report script with_tree Holds is each =
     let e = evaluate script in
-    let taken : take (length reports) script.units ≡ script.units = take_all (length reports) script.units (omega (arith, all)) in
-    let led : LeadsTo library e.units e.state reports after =
-    subst (λ us. LeadsTo library (run_units library us start).units (run_units library us start).state reports after) taken
-    (ran.from start (opening.ordered library) (opening.cells library)) in
-    let left : e.state.objects ≡ replay_units [] reports =
-    subst (λ us. (run_units library us start).state.objects ≡ replay_units [] reports) taken (replayed.from start (opening.ordered library) (opening.cells library)) in
-    let objects_are : objects ≡ e.state.objects = final.objects_are e.state led.ordered led.reaches left in
-    let rules_are : statuses (map rule_state ss) ≡ statuses e.state.rules = shown ss ∙ final.statuses_are.from e.state led.ordered led.reaches in
-    ap (λ us. units_text library with_tree 1 us ++ final_text library e.state.objects e.state.rules) led.answers
-    ∙ ap (λ os. units_text library with_tree 1 reports ++ final_text library os e.state.rules) (sym objects_are)
-    ∙ ap (λ (b : Bytes). units_text library with_tree 1 reports ++ (line 0 (codes "final" ∷ []) ++ (objects_text library objects ++ (b ++ line 0 (codes "end" ∷ [])))))
-    (sym (same_rules library.rules _ _ rules_are))
+    let of_library : OfEach script.library (cells_in report.store) (λ S. Holds (report_text script.library with_tree (evaluation report S))) =
+    subst (λ l. OfEach l (cells_in report.store) (λ S. Holds (report_text l with_tree (evaluation report S)))) is.library_is each in
+    subst (λ us. Holds (report_text script.library with_tree (record { units = us; state = e.state }))) is.units_are (of_library.from e.state is.ordered is.cells_are)
 
 -- the text for the bytes read is the output, and so is the line that refuses them
 pub output_of_script : (input : List ℕ) (is_text with_tree : Bool) (script : Script) → script_in is_text input ≡ Ok script → text_of with_tree (Ok script) ≡ output input is_text with_tree

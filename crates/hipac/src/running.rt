@@ -1,19 +1,16 @@
 //! A run, from the script's bytes to the report's bytes.
 
-ghost use Rattle.std.specs.Prelude.{◌≡◌, ◌≢◌, ◌↔◌, OnOk, IfOk, IfSome, Bool, take, true, false};
+ghost use Rattle.std.specs.Prelude.{◌≡◌, ◌≢◌, ◌↔◌, OnOk, IfOk, IfSome, take, true, false};
 ghost use Rattle.std.specs.Io.KnownBytes.{Appends};
-ghost use Rattle.hp_model.specs.Output.{text_of, output};
-ghost use Rattle.hp_model.specs.Report.{report_text};
+ghost use Rattle.hp_model.specs.Output.{output};
 ghost use Rattle.hp_report.specs.Device.{Begins};
-ghost use Rattle.hp_report.specs.Mapped.{library, evaluation};
 ghost use Rattle.hp_script.specs.Mapped.{script as script_of_model};
-ghost use Rattle.hipac.specs.Ends.{status_of};
+ghost use Rattle.hipac.specs.Ends.{status_of, IsReportOf};
 
 use hp_fire::ByThreads;
 use hp_notation::{Unread, read_script};
 use hp_report::{
-    Fault, ReadFault, Report, Sink, Source, Status, final_state, read_up_to, write_report,
-    write_text,
+    Fault, ReadFault, Report, Sink, Source, Status, read_up_to, write_report, write_text,
 };
 use hp_script::Script;
 use hp_top::{opening, run_items};
@@ -119,22 +116,18 @@ fn evaluated<T: Threads + Sync>(
     script: Script,
     workers: usize,
 ) -> Result<Report, AllocError>
-    ensures { IfOk result (λ report. (with_tree : Bool) → text_of with_tree (Ok (script_of_model script))
-        ≡ report_text (library report.library.value) with_tree (evaluation report)) }
+    ensures { IfOk result (λ report. IsReportOf report (script_of_model script)) }
 {
     let Script { library, items, .. } = script;
     let mut store = opening(alloc)?;
     let threads = ByThreads::new(rt);
     let ran = run_items(&threads, alloc, &library, &mut store, &items, workers);
     let units = ran.whole()?;
-    let (objects, statuses) = final_state(alloc, &library, &store, &units)?;
     // They aren't freed either: the program only writes the report now, and then ends.
     mem::forget(items);
-    mem::forget(store);
     Ok(Report {
         library,
         units,
-        objects,
-        statuses,
+        store,
     })
 }

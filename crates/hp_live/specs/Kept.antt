@@ -23,13 +23,12 @@ use Rattle.hp_live.specs.declared.server.Stage.{Stage}
 use Rattle.hp_live.specs.declared.server.Stage.TheVariants.{Unopened, Up, Closed}
 use Rattle.hp_live.specs.declared.server.Server.{Server}
 
--- a rule base with the same version, library, clock and number of units, whose state has the cells of the store and the objects
+-- a rule base with the same version, library, clock and number of units, whose state has the cells of the store
 pub record StandsFor (kept : RuleBase) (base : L.RuleBase) : Type 0 where
   pub version_is : base.version ≡ version_view kept.version
   pub library_is : base.library ≡ library kept.library.value
   pub ordered : IsOrdered base.library base.state
   pub cells_are : cells base.library base.state ≡ cells_in kept.store
-  pub objects_are : kept.objects ≡ base.state.objects
   pub clock_is : kept.clock ≡ base.clock
   pub units_are : kept.units ≡ base.units
 

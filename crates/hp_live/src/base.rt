@@ -15,15 +15,14 @@ ghost use Rattle.hp_live.specs.Running.{with_state, ran_base};
 
 use crate::options::Options;
 use hp_fire::{Past, Workers};
-use hp_report::{class_text, final_statuses, object_text, replay_units, state_text, units_text};
+use hp_report::{class_text, object_text, state_text, units_text};
 use hp_rule::{Library, Unit};
 use hp_script::{Excerpt, Schedule, Version};
 use hp_store::Store;
 use hp_top::{Runner, opening};
-use hp_tree::{Objects, UnitReport};
+use hp_tree::UnitReport;
 use std::alloc::{AllocError, Global};
 use std::fmt::Write;
-use std::mem;
 use std::sync::Arc;
 
 /// A rule base: its script's version and library, its state, its clock, and the number of units that have run.
@@ -35,8 +34,6 @@ pub(crate) struct RuleBase {
     pub version: Version,
     pub library: Arc<Library>,
     pub store: Store,
-    /// The objects of the store, by class and key.
-    pub objects: Objects,
     pub clock: u64,
     pub units: usize,
     // The costs of the rules' last firings. By them later lines decide where workers pay.
@@ -59,7 +56,6 @@ impl RuleBase {
             past: Past::new(alloc, &library, workers),
             library,
             store: opening(alloc)?,
-            objects: Objects::new(alloc),
             clock: 0,
             units: 0,
         })
@@ -82,8 +78,6 @@ impl RuleBase {
         let runner = Runner::new(workers, alloc, &self.library, width, &self.past);
         let ran = runner.run_items(&mut self.store, units);
         let reports = ran.whole()?;
-        let objects = mem::replace(&mut self.objects, Objects::new(alloc));
-        self.objects = replay_units(objects, &reports)?;
         Ok(reports)
     }
 
@@ -132,10 +126,7 @@ impl RuleBase {
             string_bytes text ≡ L.excerpt_text base.library base.state (model_excerpt excerpt)) }
     {
         match excerpt {
-            Excerpt::State => {
-                let statuses = final_statuses(alloc, &self.library, &self.store)?;
-                state_text(alloc, &self.library, &self.objects, &statuses)
-            }
+            Excerpt::State => state_text(alloc, &self.library, &self.store),
             Excerpt::Class(class) => class_text(alloc, &self.library, &self.store, class),
             Excerpt::Object(class, key) => {
                 object_text(alloc, &self.library, &self.store, class, key)

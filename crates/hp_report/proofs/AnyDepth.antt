@@ -5,11 +5,10 @@ use Rattle.hp_model.specs.Values.{ClassDef, Cause, exists, missing, wrong_kind, 
 use Rattle.hp_model.specs.Rules.{Coupling, Rule, Library}
 use Rattle.hp_model.specs.Tree.{Ending, committed, aborted, Condition, without_action, with_fault, with_action, with_later_action, Node, sub_node, fire_node, act_node, Operation}
 use Rattle.hp_model.specs.Tree.{create_op, update_op, delete_op, rule_op, Items, no_items, operation, emission, detachment, node, if_committed, emits}
-use Rattle.hp_model.specs.Cascade.{TransactionReport, UnitReport, Evaluation}
+use Rattle.hp_model.specs.Cascade.{TransactionReport, UnitReport}
 use Rattle.hp_model.specs.Report.{Bytes, line, value_text, rule_name, coupling_word, cause_words, ending_words, operation_words, firing_words, node_words, tree_text, heading}
-use Rattle.hp_model.specs.Report.{transaction_text, units_text, report_text}
-use Rattle.hp_model.specs.State.{Objects, RuleState}
-use Rattle.hp_report.specs.Text.{emit_lines, state_text, final_text}
+use Rattle.hp_model.specs.Report.{transaction_text, units_text}
+use Rattle.hp_report.specs.Text.{emit_lines}
 
 -- the library with another limit
 abbrev limited : Library → ℕ → Library
@@ -90,31 +89,10 @@ units l d with_tree n (u ∷ us) =
     ap (λ (b : Bytes). b ++ units_text (limited l d) with_tree (suc n) us) (each l d with_tree n u.time u.transactions)
     ∙ ap (λ (b : Bytes). flat_map (transaction_text l with_tree n u.time) u.transactions ++ b) (units l d with_tree (suc n) us)
 
--- the text of two libraries with the same classes and rules
-pub same_report : (names library : Library) (with_tree : Bool) (e : Evaluation) → names.classes ≡ library.classes → names.rules ≡ library.rules
-    → report_text names with_tree e ≡ report_text library with_tree e
-same_report names library with_tree e p q =
-    let shown : List ClassDef → List Rule → Library = λ cs rs. record { classes = cs; rules = rs; depth_limit = names.depth_limit } in
-    ap (λ cs. report_text (shown cs names.rules) with_tree e) p ∙ ap (λ rs. report_text (shown library.classes rs) with_tree e) q
-    ∙ ap (λ (b : Bytes). b ++ final_text library e.state.objects e.state.rules) (units library names.depth_limit with_tree 1 e.units)
-
+-- the lines of units by two libraries with the same classes and rules
 pub same_units : (names library : Library) (with_tree : Bool) (n : ℕ) (us : List UnitReport) → names.classes ≡ library.classes → names.rules ≡ library.rules
     → units_text names with_tree n us ≡ units_text library with_tree n us
 same_units names library with_tree n us p q =
     let shown : List ClassDef → List Rule → Library = λ cs rs. record { classes = cs; rules = rs; depth_limit = names.depth_limit } in
     ap (λ cs. units_text (shown cs names.rules) with_tree n us) p ∙ ap (λ rs. units_text (shown library.classes rs) with_tree n us) q
     ∙ units library names.depth_limit with_tree n us
-
-pub same_state : (names library : Library) (objects : Objects) (rules : List RuleState) → names.classes ≡ library.classes → names.rules ≡ library.rules
-    → state_text names objects rules ≡ state_text library objects rules
-same_state names library objects rules p q =
-    let shown : List ClassDef → List Rule → Library = λ cs rs. record { classes = cs; rules = rs; depth_limit = names.depth_limit } in
-    ap (λ cs. state_text (shown cs names.rules) objects rules) p ∙ ap (λ rs. state_text (shown library.classes rs) objects rules) q
-
--- the lines of the units and the lines after them are the whole text
-pub report_put : (library : Library) (with_tree : Bool) (e : Evaluation) (start first done : Bytes)
-    → start ≡ [] → first ≡ start ++ units_text library with_tree 1 e.units → done ≡ first ++ final_text library e.state.objects e.state.rules
-    → done ≡ report_text library with_tree e
-report_put library with_tree e start first done a b c =
-    let final = final_text library e.state.objects e.state.rules in
-    c ∙ ap (λ (t : Bytes). t ++ final) b ∙ ap (λ (t : Bytes). (t ++ units_text library with_tree 1 e.units) ++ final) a

@@ -5,3 +5,5 @@ pub mod Known
 pub mod Lines
 pub mod TreeLines
 pub mod StoredLines
+pub mod ByClass
+pub mod Endings

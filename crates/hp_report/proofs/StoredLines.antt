@@ -1,15 +1,17 @@
 -- The lines of the objects in a store are those of each state that has its cells.
-use Rattle.std.proofs.Common.{◌≡◌, refl, sym, ap, ◌∙◌, subst, ℕ, ℤ, List, [], ◌∷◌, ◌++◌, map, flat_map, Option, Some, None, is_some, option_map}
+use Rattle.std.proofs.Common.{◌≡◌, refl, sym, ap, ◌∙◌, subst, ℕ, ℤ, List, [], ◌∷◌, ◌++◌, append-nil, map, flat_map, Option, Some, None, is_some, option_map, ◌+◌, ◌≤◌, String, string_bytes, arith}
+use Rattle.std.specs.declared.alloc.Global.{Global}
 use Rattle.std.specs.List.{All}
 use Rattle.std.proofs.lemmas.List.Elements.{All-head, All-tail}
 use Rattle.hp_model.specs.Values.{ClassDef, Row, KeyedRow}
 use Rattle.hp_model.specs.Rules.{Library}
 use Rattle.hp_model.specs.State.{State, IsOrdered, find_object, rows_of}
 use Rattle.hp_model.specs.Cells.{Cells, cells, CellValue, row_value, object_cell, AreKeys}
-use Rattle.hp_model.specs.Report.{Bytes}
+use Rattle.hp_model.specs.Report.{Bytes, objects_text}
 use Rattle.hp_model.proofs.BridgesKeys.{keys_are_class_keys, rows_found}
-use Rattle.hp_report.specs.Text.{object_line, class_text, line_of_row}
-use Rattle.hp_report.specs.Stored.{stored_line, stored_lines, IsClassText, IsObjectText}
+use Rattle.hp_report.specs.Text.{Gains, object_line, class_text, line_of_row}
+use Rattle.hp_report.specs.Stored.{stored_line, stored_lines, IsObjectText, GainsOf}
+use Rattle.hp_report.proofs.ByClass.{before_class, none_before_first, class_put, all_below}
 
 -- ---- one object
 
@@ -48,12 +50,42 @@ class_lines library S class keys ordered are =
     (keys_are_class_keys class S.objects keys ordered.objects_rise are.rise (λ key. are.has key ∙ has_row (find_object S.objects class key)))
     ∙ each_line library S class (rows_of class S.objects) (rows_found class S.objects ordered.objects_rise)
 
-pub class_stored : (library : Library) (base : Cells) (class : ℕ) (keys : List ℤ) (text : Bytes)
-    → AreKeys base class keys → text ≡ stored_lines library base class keys → IsClassText library base class text
-class_stored library base class keys text are is = record {
+pub class_gained : (library : Library) (base : Cells) (class : ℕ) (keys : List ℤ) (old new : String Global)
+    → AreKeys base class keys → Gains old new (stored_lines library base class keys) → GainsOf library base (λ S. class_text library class S.objects) old new
+class_gained library base class keys old new are is = record {
   from = λ S ordered same.
-      is ∙ subst (λ (b : Cells). AreKeys b class keys → stored_lines library b class keys ≡ class_text library class S.objects) same
-      (class_lines library S class keys ordered) are;
+      is ∙ ap (λ (b : Bytes). string_bytes old ++ b)
+      (subst (λ (b : Cells). AreKeys b class keys → stored_lines library b class keys ≡ class_text library class S.objects) same
+      (class_lines library S class keys ordered) are);
+}
+
+-- ---- the objects of all classes
+
+-- none are added yet
+pub none_yet : (library : Library) (base : Cells) (out : String Global) → GainsOf library base (λ S. objects_text library (before_class 0 S.objects)) out out
+none_yet library base out = record {
+  from = λ S ordered same.
+      sym (append-nil (string_bytes out)) ∙ ap (λ os. string_bytes out ++ objects_text library os) (sym (none_before_first S.objects));
+}
+
+-- those of one class more, after those of the classes before it
+pub class_more : (library : Library) (base : Cells) (class index : ℕ) (old before now : String Global) → class ≡ index
+    → GainsOf library base (λ S. objects_text library (before_class index S.objects)) old before → GainsOf library base (λ S. class_text library class S.objects) before now
+    → GainsOf library base (λ S. objects_text library (before_class (index + 1) S.objects)) old now
+class_more library base class index old before now is so_far next = record {
+  from = λ S ordered same.
+      class_put library index S.objects (string_bytes old) (string_bytes before) (string_bytes now) ordered.objects_rise (so_far.from S ordered same)
+      (next.from S ordered same ∙ ap (λ c. string_bytes before ++ class_text library c S.objects) is);
+}
+
+-- those of the classes up to a bound are all
+pub classes_whole : (library : Library) (base : Cells) (bound index : ℕ) (old now : String Global)
+    → ((class : ℕ) (key : ℤ) → bound ≤ class → base (object_cell class key) ≡ None) → bound ≤ index
+    → GainsOf library base (λ S. objects_text library (before_class index S.objects)) old now → GainsOf library base (λ S. objects_text library S.objects) old now
+classes_whole library base bound index old now none reached so_far = record {
+  from = λ S ordered same.
+      so_far.from S ordered same
+      ∙ ap (λ os. string_bytes old ++ objects_text library os) (all_below library base S index ordered same (λ class key up. none class key (omega (arith, reached, up))));
 }
 
 -- ---- libraries with the same classes

@@ -31,9 +31,6 @@ rule_state s = S.with_status (status s)
 abbrev pub committed_emits : C.TransactionReport → List V.Value
 committed_emits t = if_committed t.ending (emits t.items) []
 
-abbrev pub evaluation : Report → C.Evaluation
-evaluation r =
-    record {
-      units = map unit_report r.units.items;
-      state = record { objects = r.objects; rules = map rule_state r.statuses.items };
-    }
+-- what was evaluated, if this is the state at the end
+abbrev pub evaluation : Report → S.State → C.Evaluation
+evaluation r state = record { units = map unit_report r.units.items; state = state }

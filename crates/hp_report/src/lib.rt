@@ -18,13 +18,12 @@ mod text;
 mod watched;
 
 pub use device::{Sink, Source};
-pub use ending::{final_objects, final_state, final_statuses, replay_units};
 pub use fault::Fault;
 pub use file::bytes_of_file;
 pub use input::{ReadFault, read_up_to};
 pub use output::{WriteFault, write_text};
-pub use parts::{state_text, units_text};
+pub use parts::units_text;
 pub use report::{Report, RuleStatus, write_report};
 pub use status::{Status, exit_code};
-pub use stored::{class_text, object_text};
+pub use stored::{class_text, object_text, state_text};
 pub use watched::Watched;

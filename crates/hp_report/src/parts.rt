@@ -1,15 +1,13 @@
-//! Parts of a report as separate texts.
+//! The lines of units as a separate text.
 
 ghost use Rattle.std.specs.Prelude.{◌≡◌, ◌+◌, ◌<◌, ◌^◌, IfOk, length, map, string_bytes};
 ghost use Rattle.hp_model.specs.Report.{units_text};
 ghost use Rattle.hp_report.specs.Mapped as model;
-ghost use Rattle.hp_report.specs.Text.{state_text};
 
 use crate::names::Names;
-use crate::report::RuleStatus;
-use crate::text::{put_state, put_units};
+use crate::text::put_units;
 use hp_rule::Library;
-use hp_tree::{Objects, UnitReport};
+use hp_tree::UnitReport;
 use std::alloc::{AllocError, Global};
 
 /// The lines of a report for units, numbered from `first` on. With `with_tree` the trees of their transactions follow.
@@ -32,26 +30,5 @@ pub fn units_text(
     };
     let mut out = String::new(alloc);
     put_units(alloc, &mut out, &names, with_tree, first, units)?;
-    Ok(out)
-}
-
-/// The lines of a report for a state: its objects, and the status of each rule, by the rule's number.
-///
-/// An error means that memory ran out.
-pub fn state_text(
-    alloc: Global,
-    library: &Library,
-    objects: &Objects,
-    statuses: &[RuleStatus],
-) -> Result<String, AllocError>
-    ensures { IfOk result (λ text. string_bytes text
-        ≡ state_text (model.library library.now) objects.now (map model.rule_state statuses.now)) }
-{
-    let names = Names {
-        classes: library.classes(),
-        rules: library.rules(),
-    };
-    let mut out = String::new(alloc);
-    put_state(alloc, &mut out, &names, objects, statuses)?;
     Ok(out)
 }

@@ -1,17 +1,20 @@
 //! Reports and how they are written.
 
-ghost use Rattle.std.specs.Prelude.{◌≡◌, ◌↔◌, OnOk, IfOk, string_bytes, true, false};
+ghost use Rattle.std.specs.Prelude.{◌≡◌, ◌↔◌, OnOk, IfOk, map, string_bytes, true, false};
 ghost use Rattle.std.specs.Io.KnownBytes.{Appends};
 ghost use Rattle.hp_model.specs.Report.{report_text};
+ghost use Rattle.hp_store.specs.Stack.{cells_in};
 ghost use Rattle.hp_report.specs.Device.{Begins};
 ghost use Rattle.hp_report.specs.Mapped as model;
+ghost use Rattle.hp_report.specs.Stored.{IsReportText, OfEach};
 
 use crate::device::Sink;
-use crate::names::Names;
 use crate::output::{WriteFault, write_text};
-use crate::text::{put_final, put_units};
+use crate::parts::units_text;
+use crate::text::put_final;
 use hp_rule::Library;
-use hp_tree::{Objects, UnitReport};
+use hp_store::Store;
+use hp_tree::UnitReport;
 use std::alloc::{AllocError, Global};
 use std::sync::Arc;
 
@@ -33,29 +36,22 @@ pub struct Report {
     pub library: Arc<Library>,
     /// A report for each unit, in the order in which they ran.
     pub units: Vec<UnitReport>,
-    /// The final objects.
-    pub objects: Objects,
-    /// The final status of each rule, by its number.
-    pub statuses: Vec<RuleStatus>,
+    /// The objects and the rules' statuses after the last unit.
+    pub store: Store,
 }
 
 /// The whole text of a report.
 fn text_of(alloc: Global, report: &Report, with_tree: bool) -> Result<String, AllocError>
-    ensures { IfOk result (λ text. string_bytes text
-        ≡ report_text (model.library report.now.library.value) with_tree (model.evaluation report.now)) }
+    ensures { IfOk result (λ text. IsReportText (model.library report.now.library.value) (cells_in report.now.store)
+        with_tree (map model.unit_report report.now.units.items) (string_bytes text)) }
 {
-    let names = Names {
-        classes: report.library.classes(),
-        rules: report.library.rules(),
-    };
-    let mut out = String::new(alloc);
-    put_units(alloc, &mut out, &names, with_tree, 1, &report.units)?;
-    put_final(alloc, &mut out, &names, &report.objects, &report.statuses)?;
+    let mut out = units_text(alloc, &report.library, with_tree, 1, &report.units)?;
+    put_final(alloc, &mut out, &report.library, &report.store)?;
     Ok(out)
 }
 
-/// Writes the text of a report, in as many writes as the device needs. With `with_tree` it has the trees of the
-/// transactions.
+/// Writes the text of a report, in as many writes as the device needs: that of its units and of each ordered state that
+/// has the cells of its store. With `with_tree` it has the trees of the transactions.
 ///
 /// The whole text is made before the first write, so nothing is written where memory runs out. It stops at the first
 /// write that fails, and a beginning of the text was written.
@@ -66,12 +62,15 @@ pub fn write_report<W: Sink>(
     writer: &mut W,
 ) -> Result<(), WriteFault>
     requires { W.has_failed writer.old ≡ false }
-    ensures ok { OnOk result (Appends (W.contents writer.old) (W.contents writer.new)
-        (report_text (model.library report.now.library.value) with_tree (model.evaluation report.now))) }
+    ensures ok { let lib = model.library report.now.library.value in
+        OnOk result (OfEach lib (cells_in report.now.store) (λ S.
+        Appends (W.contents writer.old) (W.contents writer.new)
+        (report_text lib with_tree (model.evaluation report.now S)))) }
 
     // Whatever the result, what was written is a beginning of the text.
-    ensures begins { Begins (W.contents writer.old) (W.contents writer.new)
-        (report_text (model.library report.now.library.value) with_tree (model.evaluation report.now)) }
+    ensures begins { let lib = model.library report.now.library.value in
+        OfEach lib (cells_in report.now.store) (λ S. Begins (W.contents writer.old) (W.contents writer.new)
+        (report_text lib with_tree (model.evaluation report.now S))) }
 
     ensures write { result ≡ Err WriteFault.Write ↔ (W.has_failed writer.new ≡ true) }
     ensures memory { result ≡ Err WriteFault.NoMemory → writer.new ≡ writer.old }

@@ -51,7 +51,7 @@ expressions_within (e ∷ es) = and_from (expression_fits (expression e)) (list_
 
 pairs_within : (ps : List Assignment) → assignments_fit (map assignment ps) ≡ true
 pairs_within [] = refl
-pairs_within (p ∷ ps) = and_from (expression_fits (expression p.value.value)) (assignments_fit (map assignment ps)) (expression_within p.value.value) (pairs_within ps)
+pairs_within (p ∷ ps) = and_from (expression_fits (expression p.value)) (assignments_fit (map assignment ps)) (expression_within p.value) (pairs_within ps)
 
 aggregate_within : (a : Aggregate) → aggregate_fits (aggregate a) ≡ true
 aggregate_within (A.Count q) = expression_within q.predicate.value

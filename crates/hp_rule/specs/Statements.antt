@@ -12,7 +12,7 @@ use Rattle.hp_rule.specs.declared.stmt.Stmt.TheVariants.{Create, Update, Delete,
 use Rattle.hp_rule.specs.declared.rule.Rule.{Rule}
 
 abbrev pub assignment : Assignment → R.Assignment
-assignment a = record { field = string_bytes a.field; value = expression a.value.value }
+assignment a = record { field = string_bytes a.field; value = expression a.value }
 
 abbrev mutual
   pub statement : Stmt → R.Statement

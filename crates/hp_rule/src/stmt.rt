@@ -9,7 +9,7 @@ pub struct Assignment {
     /// The field's name.
     pub field: String,
     /// The expression whose value the field gets.
-    pub value: Box<Expr>,
+    pub value: Expr,
 }
 
 /// A statement of a script's transaction or of a rule's action.

@@ -11,7 +11,7 @@ ghost use Rattle.hp_rule.specs.Places.{steps};
 ghost use Rattle.hp_script.specs.Mapped.{Gives};
 ghost use Rattle.hp_script.specs.Settings.{setting_view};
 
-use crate::expression::boxed_expression_at;
+use crate::expression::expression_at;
 use crate::list::list_at;
 use crate::names::{Names, new_name_at};
 use crate::refusal::{DecodeError, bad_name, shaped};
@@ -57,7 +57,7 @@ fn assignment_at(
 {
     let (name, value) = shaped(alloc, place, pair_of(value))?;
     let name = assigned_field_at(alloc, &place.item(0), fields, before, name)?;
-    let value = boxed_expression_at(alloc, &place.item(1), setting, value)?;
+    let value = expression_at(alloc, &place.item(1), setting, value)?;
     let field = String::from_str(alloc, name)?;
     Ok(Assignment { field, value })
 }

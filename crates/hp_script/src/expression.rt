@@ -148,6 +148,9 @@ pub(crate) fn expression_at(
     ensures { Gives expression result
         (expression_at (setting_view setting.now) (steps place.now) (view value.now)) }
 {
+    if let Some(integer) = plain_integer(MAX_LEVELS, value) {
+        return Ok(Expr::literal(Constant::Int(integer)));
+    }
     expression_within(alloc, place, setting, MAX_LEVELS, value)
 }
 

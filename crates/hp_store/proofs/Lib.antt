@@ -19,3 +19,4 @@ pub mod Placed
 pub mod Indexed
 pub mod Noted
 pub mod Counted
+pub mod Bounds

@@ -31,7 +31,7 @@ pub(crate) struct Base {
 }
 
 impl Base {
-    ghost use Rattle.std.specs.Prelude.{◌≡◌, ◌<◌, ◌^◌, ℤ, true, false, [], None, IfOk, OnOk, OnErr};
+    ghost use Rattle.std.specs.Prelude.{◌≡◌, ◌<◌, ◌≤◌, ◌^◌, ℕ, ℤ, true, false, [], None, IfOk, OnOk, OnErr};
     ghost use Rattle.std.specs.Prelude.{IfSome, IsSome, MatchOption, option_map, if◌then◌else◌};
     ghost use Rattle.hp_store.specs.Tables.{table_at};
     ghost use Rattle.hp_model.specs.Cells.{Cell as ModelCell, object_cell, AreKeys, IsCount, over, same_cell, is_above};
@@ -86,6 +86,13 @@ impl Base {
             Some(table) => Some(table),
             None => None,
         }
+    }
+
+    /// A number above those of all classes that have objects.
+    pub(crate) fn class_bound(&self) -> usize
+        ensures { (class : ℕ) (key : ℤ) → result ≤ class → base_cells self.now (object_cell class key) ≡ None }
+    {
+        self.classes.len()
     }
 
     /// The keys of a class, in rising order.

@@ -5,6 +5,7 @@
 
 mod base;
 mod candidates;
+mod classes;
 mod counting;
 mod greatest;
 mod index;

@@ -27,8 +27,8 @@ impl Model for Store {
 }
 
 impl Store {
-    ghost use Rattle.std.specs.Prelude.{◌≡◌, None, IfOk, OnOk, OnErr, option_map};
-    ghost use Rattle.hp_model.specs.Cells.{Cell as ModelCell, AreKeys, AreObjects, over};
+    ghost use Rattle.std.specs.Prelude.{◌≡◌, ◌≤◌, ℕ, ℤ, None, IfOk, OnOk, OnErr, option_map};
+    ghost use Rattle.hp_model.specs.Cells.{Cell as ModelCell, AreKeys, AreObjects, object_cell, over};
     ghost use Rattle.hp_value.specs.Mapped as mapped;
     ghost use Rattle.hp_store.specs.Changes.{changes};
     ghost use Rattle.hp_store.specs.Mapped as here;
@@ -59,6 +59,14 @@ impl Store {
         ensures { option_map (λ v. here.cell_value v.now) result ≡ cells_in self.now (mapped.cell cell) }
     {
         self.state.get(cell)
+    }
+
+    /// A number above those of all classes that have objects. The time goes with the layers' changes that the store
+    /// hasn't taken in, since snapshots of it are left.
+    pub fn class_bound(&self) -> usize
+        ensures { (class : ℕ) (key : ℤ) → result ≤ class → cells_in self.now (object_cell class key) ≡ None }
+    {
+        self.state.class_bound()
     }
 
     /// The keys of a class's objects, in rising order.

@@ -14,6 +14,8 @@ use std::alloc::AllocError;
 ///
 /// Operations outside all nodes count as committed, so the caller leaves out an aborted top-level transaction. No value
 /// is copied.
+///
+/// Programs read the final objects from the store, which has the same; the specification of the crates names this call.
 pub fn replay(initial: Objects, tree: &[Item]) -> Result<Objects, AllocError>
     ensures { IfOk result (λ objects. objects ≡ replay (items_in tree.now) initial) }
 {

@@ -181,6 +181,8 @@ impl View {
     ///
     /// A cell that was read before, by itself or with its whole class, or that the view's own writes cover, takes no
     /// memory. An error means that memory ran out; the view is then as before.
+    ///
+    /// Programs call `fetch`; the specification of the crates names this call, too.
     pub fn get(&mut self, cell: Cell) -> Result<Option<&CellValue>, AllocError>
         ensures value { IfOk result (λ found. option_map (λ v. cell_value v.now) found
             ≡ now_in self.old (mapped.cell cell)) }

@@ -1,13 +1,13 @@
 //! The lines of objects.
 
 ghost use Rattle.std.specs.Prelude.{◌++◌, ◌∷◌, codes, OnOk};
-ghost use Rattle.hp_model.specs.Report.{line, object_words, row_words, objects_text};
+ghost use Rattle.hp_model.specs.Report.{line, object_words, row_words};
 ghost use Rattle.hp_report.specs.Mapped as model;
 ghost use Rattle.hp_report.specs.Text.{Gains, spaced};
 
 use crate::names::Names;
 use crate::text::words::put_value;
-use hp_tree::{ObjectName, Objects};
+use hp_tree::ObjectName;
 use hp_value::{ClassNo, Key, Row};
 use std::alloc::{AllocError, Global};
 use std::fmt::Write;
@@ -68,20 +68,5 @@ pub fn put_object_line(
     out.push_str("object")?;
     put_object(alloc, out, names, name.class, name.key, row)?;
     out.push_str("\n")?;
-    Ok(())
-}
-
-/// The lines of objects, by class and then by key.
-pub fn put_objects(
-    alloc: Global,
-    out: &mut String,
-    names: &Names<'_>,
-    objects: &Objects,
-) -> Result<(), AllocError>
-    ensures { OnOk result (Gains out.old out.new (objects_text (model.library_of names.now) objects.now)) }
-{
-    for (name, row) in objects.iter() {
-        put_object_line(alloc, out, names, name, row)?;
-    }
     Ok(())
 }

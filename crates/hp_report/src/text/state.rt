@@ -1,44 +1,45 @@
-//! The lines of the final state.
+//! The lines of a state.
 
-ghost use Rattle.std.specs.Prelude.{map, OnOk};
+ghost use Rattle.std.specs.Prelude.{OnOk};
+ghost use Rattle.hp_store.specs.Stack.{cells_in};
 ghost use Rattle.hp_report.specs.Mapped as model;
-ghost use Rattle.hp_report.specs.Text.{Gains, final_text, state_text};
+ghost use Rattle.hp_report.specs.Stored.{GainsOf};
+ghost use Rattle.hp_report.specs.Text.{final_text, state_text};
 
-use crate::names::Names;
-use crate::report::RuleStatus;
-use crate::text::objects::put_objects;
+use crate::ending::final_statuses;
+use crate::stored::put_all_objects;
 use crate::text::rules::put_rules;
-use hp_tree::Objects;
+use hp_rule::Library;
+use hp_store::Store;
 use std::alloc::{AllocError, Global};
-use std::fmt::Write;
 
 /// The lines after the units: the final objects, and the final statuses of the rules.
 pub fn put_final(
     alloc: Global,
     out: &mut String,
-    names: &Names<'_>,
-    objects: &Objects,
-    statuses: &[RuleStatus],
+    library: &Library,
+    store: &Store,
 ) -> Result<(), AllocError>
-    ensures { OnOk result (Gains out.old out.new
-        (final_text (model.library_of names.now) objects.now (map model.rule_state statuses.now))) }
+    ensures { let lib = model.library library.now in
+        OnOk result (GainsOf lib (cells_in store.now) (λ S. final_text lib S.objects S.rules) out.old out.new) }
 {
-    writeln!(out, "final")?;
-    put_state(alloc, out, names, objects, statuses)?;
-    writeln!(out, "end")
+    out.push_str("final\n")?;
+    put_state(alloc, out, library, store)?;
+    out.push_str("end\n")?;
+    Ok(())
 }
 
 /// The lines of a state: its objects, and the statuses of its rules.
 pub fn put_state(
     alloc: Global,
     out: &mut String,
-    names: &Names<'_>,
-    objects: &Objects,
-    statuses: &[RuleStatus],
+    library: &Library,
+    store: &Store,
 ) -> Result<(), AllocError>
-    ensures { OnOk result (Gains out.old out.new
-        (state_text (model.library_of names.now) objects.now (map model.rule_state statuses.now))) }
+    ensures { let lib = model.library library.now in
+        OnOk result (GainsOf lib (cells_in store.now) (λ S. state_text lib S.objects S.rules) out.old out.new) }
 {
-    put_objects(alloc, out, names, objects)?;
-    put_rules(out, names.rules, statuses)
+    put_all_objects(alloc, out, library, store)?;
+    let statuses = final_statuses(alloc, library, store)?;
+    put_rules(out, library.rules(), &statuses)
 }

@@ -1,12 +1,11 @@
-use Rattle.std.proofs.Common.{◌≡◌, ◌∙◌, ap, sym, subst, map, length}
+use Rattle.std.proofs.Common.{◌≡◌, refl, ◌∙◌, ap, sym, subst, map, length}
 use Rattle.std.proofs.lemmas.List.{length-map}
 use Rattle.hp_rule.specs.Mapped.{unit as unit_of}
 use Rattle.hp_store.specs.Stack.{cells_in}
-use Rattle.hp_report.specs.Ending.{AreFinal}
-use Rattle.hp_report.specs.Mapped.{library, unit_report, status}
+use Rattle.hp_report.specs.Mapped.{library, unit_report}
 use Rattle.hp_script.specs.Mapped.{script as script_of_model}
-use Rattle.hp_top.specs.Units.{RanUnits, AreReplayed}
-use Rattle.hipac.proofs.Evaluated.{whole_text}
+use Rattle.hp_top.specs.Units.{RanUnits}
+use Rattle.hipac.proofs.Evaluated.{all_ran}
 use Rattle.hipac.proofs.running.evaluated.Goals as goal
 
 pub returns : goal.returns
@@ -23,16 +22,9 @@ returns g c =
     subst (λ l. RanUnits l script.units before after reports) lib_is
     (subst (λ us. RanUnits (library c.deref.result.now) us before after reports) items_are
     (subst (RanUnits (library c.deref.result.now) (map unit_of c.deref-2.result.now) before after) reports_are c.run_items-ran.ensures.ran)) in
-    let replayed : AreReplayed lib script.units before reports =
-    subst (λ l. AreReplayed l script.units before reports) lib_is
-    (subst (λ us. AreReplayed (library c.deref.result.now) us before reports) items_are
-    (subst (AreReplayed (library c.deref.result.now) (map unit_of c.deref-2.result.now) before) reports_are c.run_items-ran.ensures.replayed)) in
     let all : length reports ≡ length script.units =
     length-map c.in_ok-units.units.items unit_report ∙ ap (λ v. length v.items) c.in_ok-units.ensures.all
     ∙ c.run_items-ran.ensures.all c.in_ok-units.ensures.unstopped
     ∙ ap length c.deref-2.ensures.value ∙ sym (length-map c.args.script.items.items unit_of) in
-    let final : AreFinal lib after reports c.in_ok-objects.objects (map status c.in_ok-objects.statuses.items) =
-    subst (λ l. AreFinal l after reports c.in_ok-objects.objects (map status c.in_ok-objects.statuses.items)) (ap library c.deref-3.ensures)
-    (subst (λ us. AreFinal (library c.deref-3.result.now) after (map unit_report us) c.in_ok-objects.objects (map status c.in_ok-objects.statuses.items)) c.deref-4.ensures.value
-    c.in_ok-objects.ensures.state) in
-    λ with_tree. whole_text script before after reports c.in_ok-objects.objects c.in_ok-objects.statuses.items with_tree c.in_ok-store.ensures ran replayed all final
+    let led = all_ran script before after reports c.in_ok-store.ensures ran all in
+    record { library_is = refl; units_are = sym led.answers; ordered = led.ordered; cells_are = led.reaches }

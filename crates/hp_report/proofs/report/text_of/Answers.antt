@@ -1,18 +1,19 @@
-use Rattle.std.proofs.Common.{rules, ◌≡◌, ◌∙◌, ◌++◌, ap, map, string_bytes}
+use Rattle.std.proofs.Common.{◌∙◌, ap, subst, map}
 use Rattle.hp_model.specs.Report.{units_text}
+use Rattle.hp_store.specs.Stack.{cells_in}
 use Rattle.hp_report.specs.Mapped as model
+use Rattle.hp_report.specs.Stored.{GainsOf}
 use Rattle.hp_report.specs.Text.{final_text}
-use Rattle.hp_report.proofs.AnyDepth.{report_put, same_report}
+use Rattle.hp_report.proofs.Endings.{report_put}
 use Rattle.hp_report.proofs.report.text_of.Goals as goal
 
 pub returns : goal.returns
 returns c =
-    let names = model.library_of (record { classes = c.classes.result; rules = c.rules.result }) in
-    let library = model.library c.args.report.now.library.value in
-    let e = model.evaluation c.args.report.now in
-    let classes : names.classes ≡ library.classes = search rules in
-    let rules_are : names.rules ≡ library.rules = search rules in
-    report_put names c.args.with_tree e (string_bytes c.new-out.result) (string_bytes c.put_units.new.out) _ c.new-out.ensures.bytes
-    (c.in_ok-put_units.ensures ∙ ap (λ us. string_bytes c.new-out.result ++ units_text names c.args.with_tree 1 (map model.unit_report us)) c.deref-3.ensures.value)
-    (c.in_ok-put_final.ensures ∙ ap (λ rs. string_bytes c.put_units.new.out ++ final_text names e.state.objects (map model.rule_state rs)) c.deref-4.ensures.value)
-    ∙ same_report names library c.args.with_tree e classes rules_are
+    let report = c.args.report.now in
+    let lib = model.library report.library.value in
+    let base = cells_in report.store in
+    report_put lib base c.args.with_tree (map model.unit_report report.units.items) c.in_ok-out.out c.put_final.new.out
+    (c.in_ok-out.ensures
+    ∙ ap (λ l. units_text (model.library l) c.args.with_tree 1 (map model.unit_report c.deref-2.result.now)) c.deref.ensures
+    ∙ ap (λ us. units_text lib c.args.with_tree 1 (map model.unit_report us)) c.deref-2.ensures.value)
+    (subst (λ l. GainsOf (model.library l) base (λ T. final_text (model.library l) T.objects T.rules) c.in_ok-out.out c.put_final.new.out) c.deref-3.ensures c.in_ok-put_final.ensures)

@@ -6,4 +6,4 @@ pub returns : goal.returns
 returns c =
     let opening = c.in_ok-opening.ensures in
     let l = library c.args.library.value in
-    record { version_is = refl; library_is = refl; ordered = opening.ordered l; cells_are = opening.cells l; objects_are = c.new-2.ensures; clock_is = refl; units_are = refl }
+    record { version_is = refl; library_is = refl; ordered = opening.ordered l; cells_are = opening.cells l; clock_is = refl; units_are = refl }

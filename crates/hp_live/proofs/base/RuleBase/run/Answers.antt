@@ -43,7 +43,6 @@ returns-clause-state g c base stands =
       library_is = later.library_is;
       ordered = later.ordered;
       cells_are = later.cells_are;
-      objects_are = later.objects_are;
       clock_is = refl;
       units_are = last;
     }

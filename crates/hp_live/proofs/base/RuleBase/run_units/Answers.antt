@@ -1,6 +1,5 @@
 use Rattle.std.proofs.Common.{◌≡◌, ◌∙◌, ap, sym, length, map}
 use Rattle.std.proofs.lemmas.List.{length-map}
-use Rattle.hp_model.specs.Laws.{replay_units}
 use Rattle.hp_rule.specs.Mapped.{library, unit}
 use Rattle.hp_store.specs.Stack.{cells_in}
 use Rattle.hp_report.specs.Mapped.{unit_report}
@@ -13,9 +12,9 @@ returns-clause-reports g c base stands =
     let us = map unit c.args.units.now in
     let rs = map unit_report items.result.reports.items in
     let all : length rs ≡ length us = length-map items.result.reports.items unit_report ∙ items.ensures.all c.in_ok-reports.ensures.unstopped ∙ sym (length-map c.args.units.now unit) in
-    let ran = ran_from (library c.new-runner.result.engine.lib.now) us (cells_in c.args.self.now.store) (cells_in items.new.store) rs base items.ensures.ran items.ensures.replayed all
+    let led = ran_from (library c.new-runner.result.engine.lib.now) us (cells_in c.args.self.now.store) (cells_in items.new.store) rs base items.ensures.ran all
     (ap (λ l. library l.now) c.new-runner.ensures.lib ∙ ap library c.deref.ensures ∙ sym stands.library_is) stands.ordered stands.cells_are in
-    ap (λ v. map unit_report v.items) c.in_ok-reports.ensures.all ∙ sym ran.led.answers
+    ap (λ v. map unit_report v.items) c.in_ok-reports.ensures.all ∙ sym led.answers
 
 pub returns-clause-state : goal.returns-clause-state
 returns-clause-state g c base stands =
@@ -23,17 +22,13 @@ returns-clause-state g c base stands =
     let us = map unit c.args.units.now in
     let rs = map unit_report items.result.reports.items in
     let all : length rs ≡ length us = length-map items.result.reports.items unit_report ∙ items.ensures.all c.in_ok-reports.ensures.unstopped ∙ sym (length-map c.args.units.now unit) in
-    let ran = ran_from (library c.new-runner.result.engine.lib.now) us (cells_in c.args.self.now.store) (cells_in items.new.store) rs base items.ensures.ran items.ensures.replayed all
+    let led = ran_from (library c.new-runner.result.engine.lib.now) us (cells_in c.args.self.now.store) (cells_in items.new.store) rs base items.ensures.ran all
     (ap (λ l. library l.now) c.new-runner.ensures.lib ∙ ap library c.deref.ensures ∙ sym stands.library_is) stands.ordered stands.cells_are in
-    let reports_are : map unit_report c.deref-2.result.now ≡ rs = ap (map unit_report) c.deref-2.ensures.value ∙ ap (λ v. map unit_report v.items) c.in_ok-reports.ensures.all in
     record {
       version_is = stands.version_is;
       library_is = stands.library_is;
-      ordered = ran.led.ordered;
-      cells_are = ran.led.reaches;
-      objects_are =
-          c.in_ok-self.ensures ∙ ap (λ os. replay_units os (map unit_report c.deref-2.result.now)) (c.replace-objects.ensures.value ∙ stands.objects_are)
-          ∙ ap (replay_units base.state.objects) reports_are ∙ sym ran.objects;
+      ordered = led.ordered;
+      cells_are = led.reaches;
       clock_is = stands.clock_is;
       units_are = stands.units_are;
     }
