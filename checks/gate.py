@@ -295,6 +295,13 @@ def catches_wrong_reports(tree):
     expect_failure(tree, ["./test", "--prove"], (PROVED - 1, 1), "FAILED script 3")
 
 
+def shows_notes(tree):
+    """A part's note is shown, though nothing has failed."""
+    tree.note("notation.py", "0\ntest: note: it took long\n2 passed, 0 failed\n")
+    status, lines, last = tree.run("./test", "notation")
+    expect((status, last, "test: note: it took long" in lines), (0, "3 passed, 0 failed", True), "\n".join(lines))
+
+
 def catches_edits(tree):
     """An edit that the prover doesn't refuse is caught."""
     tree.note("must_fail.py", "1\nFAILED app/some: NOT REFUSED: the crate is still proved\n1 passed, 1 failed\n")
@@ -343,6 +350,7 @@ CHECKS = (
     proves_nothing_in_vain,
     catches_proofs,
     catches_wrong_reports,
+    shows_notes,
     catches_edits,
     proves_a_copy,
     ends_its_parts,

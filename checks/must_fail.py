@@ -43,6 +43,9 @@ PROCESSORS = len(os.sched_getaffinity(0))
 # The memory, in kB, that must be free when a check begins: each takes up to 4 GB.
 FREE_MEMORY = 8_000_000
 
+# How many crates are named whose edits took longest.
+LONGEST = 12
+
 # Seconds between two looks at what `rt ci` has proved.
 PAUSE = 5
 
@@ -138,7 +141,7 @@ class Tries:
         self.unique = unique_names(map(text_of, paths))
         # Of each edit by its path: what it came to, and the line that shows it.
         self.found = {}
-        self.seconds = 0.0
+        self.seconds, self.alone = 0.0, 0
 
     def text(self, path):
         return text_of(os.path.join(self.proved.top, "crates", self.crate, path))
@@ -161,6 +164,7 @@ class Tries:
 
     def one(self, path):
         """Tries an edit alone, in a check of the whole crate."""
+        self.alone += 1
         texts, why = edited(self.crate, path)
         self.found[path] = came_to(*self.proved.check(self.crate, texts, []), texts) if texts else (BAD, why)
 
@@ -230,10 +234,13 @@ def main():
         give_way()
     proved = Proved(os.path.abspath(words.folder), words.minutes, words.follow)
     crates = words.crates or [name for name in proved.known if repo.edits(name, repo.GATE_EDITS)]
-    passed, failed = 0, 0
+    passed, failed, times = 0, 0, []
     for tries in in_turn(proved, sorted(crates, key=repo.cost_of)):
         refused, others = tell(tries)
         passed, failed = passed + refused, failed + others
+        times.append((tries.seconds, f"{tries.crate} {tries.seconds:.0f} ({tries.alone})"))
+    longest = ", ".join(text for _, text in sorted(times, reverse=True)[:LONGEST])
+    print(f"test: note: seconds of the edits of a crate, and how many were tried alone: {longest}")
     print(f"{passed} passed, {failed} failed")
     return 1 if failed else 0
 

@@ -19,6 +19,9 @@ import running
 
 LOGS = os.path.join(repo.BUILT, "test")
 
+# How a line begins that is shown though nothing failed.
+NOTE = "test: note: "
+
 # Seconds between two lines that tell what is at work, where nothing else is told.
 PAUSE = 60
 
@@ -66,8 +69,8 @@ class Part:
 
 @dataclass(frozen=True)
 class Result:
-    """What came of a part: how many passed and failed, the lines that tell of failures, how many seconds it took, and
-    for how many a processor worked on it."""
+    """What came of a part: how many passed and failed, the lines that tell of failures or of what is to be noted, how
+    many seconds it took, and for how many a processor worked on it."""
 
     passed: int
     failed: int
@@ -172,7 +175,7 @@ class Run:
         self.results[name] = result
         self.passed += result.passed
         self.failed += result.failed
-        if result.failed:
+        if result.lines:
             print("\n".join(result.lines), flush=True)
         counts = f"{result.passed} passed, {result.failed} failed"
         self.say(f"{name}: {counts}; {result.seconds:.0f} seconds, {result.work:.0f} of one processor "
@@ -198,7 +201,7 @@ class Run:
             return Result(0, 1, [why], seconds, work)
         passed, failures = count_of(part, said, status)
         if not failures:
-            return Result(passed, 0, [], seconds, work)
+            return Result(passed, 0, [it for it in said.splitlines() if it.startswith(NOTE)], seconds, work)
         return Result(passed, failures, [f"FAILED {part.name}: status {status}", *part.telling(said)], seconds, work)
 
     def run_command(self, part: Part) -> tuple[int, str, float]:
