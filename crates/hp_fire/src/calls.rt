@@ -157,8 +157,8 @@ pub fn run_group<R: Threads + Sync, G: Gate + Sync>(
 
 /// Tries a task on a snapshot. The attempt stands for the task's firing on each state in which its reads hold.
 ///
-/// A group of firings inside uses at most `width` threads, while this thread sleeps. Programs call `Engine`, which makes
-/// its attempts in the same way; the specification of the crates names this call, too.
+/// A group of firings inside uses at most `width` threads, while this thread sleeps. Programs call `Engine`, which
+/// makes its attempts in the same way; the specification of the crates names this call, too.
 pub fn run_task<W: Workers>(
     workers: &W,
     alloc: Global,
