@@ -1,8 +1,10 @@
 -- What is declared of a signal, as it is stored.
-use Rattle.std.proofs.Common.{◌≡◌, refl, sym, ap, subst, ◌∙◌, ℕ, Bool, true, false, true≢false, cond, List, [], ◌∷◌, Option, Some, None, map, bytes_eq, if◌then◌else◌}
+use Rattle.std.proofs.Common.{◌≡◌, refl, sym, ap, subst, ◌∙◌, ℕ, Bool, true, false, true≢false, cond, List, [], ◌∷◌, ◌++◌, Option, Some, None, map, bytes_eq, if◌then◌else◌, ◌||◌, ◌==◌}
 use Rattle.std.specs.Prelude.{unwrap_or, option_map, is_some, IfSome, String, string_bytes}
 use Rattle.std.proofs.lemmas.Slice.Eq.{bytes_eq-Decides}
 use Rattle.std.specs.Global.{Vec}
+use Rattle.std.specs.List.{list_any}
+use Rattle.std.proofs.lemmas.List.Folds.{list_any-append}
 use Rattle.std.specs.BTreeMap.{BTreeMap, UpdatesBy, is_at}
 use Rattle.std.specs.String.{string_cmp}
 use Rattle.std.specs.Ordering.{nat_cmp}
@@ -12,7 +14,7 @@ use Rattle.std.specs.declared.alloc.Global.{Global}
 use Rattle.std.proofs.lemmas.Map.Text.{btree_map_updates_text, is_eq-slice_cmp}
 use Rattle.hp_model.specs.Kinds as K
 use Rattle.hp_analysis.specs.Kinded.{sort}
-use Rattle.hp_analysis.specs.Declarations.{signatures, sorts_found, Keeps}
+use Rattle.hp_analysis.specs.Declarations.{signatures, sorts_found, Keeps, KeepsFired}
 use Rattle.hp_analysis.specs.declared.kinds.sort.Sort.{Sort}
 
 chosen : (b : Bool) (v : Vec Sort) (found : Option (List K.Sort)) (stored : Option (Vec Sort)) → unwrap_or found [] ≡ sorts_found stored
@@ -95,3 +97,16 @@ pub keeps_beside : (before after : K.Declared) (name : List ℕ) (sorts : List K
 keeps_beside before after name sorts new put = λ other.
     put_beside (lookup (bytes_eq other) before.signatures) (lookup (bytes_eq other) after.signatures) (Some sorts) (bytes_eq name other) (put other)
     (λ e. subst (λ (x : List ℕ). is_some (lookup (bytes_eq x) before.signatures) ≡ false) ((bytes_eq-Decides name other).0 e) new)
+
+-- ---- the rules that statements may fire
+
+any_more : (p : ℕ → Bool) (xs ys : List ℕ) → list_any p xs ≡ true → list_any p (xs ++ ys) ≡ true
+any_more p xs ys is = list_any-append p xs ys ∙ ap (λ b. b || list_any p ys) is
+
+pub fires_same : (given d : K.Declared) → d.fired ≡ given.fired → KeepsFired given d
+fires_same given d is = λ rule fired. subst (λ (fs : List ℕ). list_any (λ m. m == rule) fs ≡ true) (sym is) fired
+
+pub fires_more : (given before after : K.Declared) (number : ℕ) → KeepsFired given before → after.fired ≡ before.fired ++ number ∷ []
+    → KeepsFired given after
+fires_more given before after number kept is = λ rule fired.
+    subst (λ (fs : List ℕ). list_any (λ m. m == rule) fs ≡ true) (sym is) (any_more (λ m. m == rule) before.fired (number ∷ []) (kept rule fired))

@@ -1,6 +1,6 @@
 -- What a declaration stands for in the definitions.
 use Rattle.std.specs.Option.{option_map_or}
-use Rattle.std.specs.Prelude.{◌≡◌, Option, Some, List, [], map, string_bytes, String, bytes_eq, IfSome}
+use Rattle.std.specs.Prelude.{◌≡◌, true, ℕ, Option, Some, List, [], map, string_bytes, String, bytes_eq, IfSome}
 use Rattle.std.specs.Global.{Vec}
 use Rattle.std.specs.Map.{lookup}
 use Rattle.std.specs.declared.alloc.Global.{Global}
@@ -23,3 +23,7 @@ sorts_found found = option_map_or (λ v. map sort v.items) found []
 -- each signal that the first declares has exactly this signature in the second
 abbrev pub Keeps : K.Declared → K.Declared → Type 0
 Keeps given d = (name : Name) → IfSome (lookup (bytes_eq name) given.signatures) (λ sorts. lookup (bytes_eq name) d.signatures ≡ Some sorts)
+
+-- each rule that statements may fire by the first, they may fire by the second
+abbrev pub KeepsFired : K.Declared → K.Declared → Type 0
+KeepsFired given d = (rule : ℕ) → K.is_fired given rule ≡ true → K.is_fired d rule ≡ true

@@ -1,6 +1,6 @@
 //! What is declared of signals, and which rules statements may fire.
 
-ghost use Rattle.std.specs.Prelude.{◌≡◌, [], map, OnOk, if◌then◌else◌, bytes_eq, List, ℕ, string_bytes};
+ghost use Rattle.std.specs.Prelude.{◌≡◌, ◌++◌, ◌∷◌, [], map, OnOk, if◌then◌else◌, bytes_eq, List, ℕ, string_bytes};
 ghost use Rattle.std.specs.Prelude.{Some, is_some};
 ghost use Rattle.std.specs.Map.{lookup};
 ghost use Rattle.hp_model.specs.Kinds as model;
@@ -87,7 +87,8 @@ impl Declaration {
 
     /// Lets statements fire the rule of this number.
     pub(crate) fn allow(&mut self, number: RuleNo) -> Result<(), AllocError>
-        ensures { OnOk result ((declared self.new).signatures ≡ (declared self.old).signatures) }
+        ensures signatures { OnOk result ((declared self.new).signatures ≡ (declared self.old).signatures) }
+        ensures fired { OnOk result ((declared self.new).fired ≡ (declared self.old).fired ++ number ∷ []) }
     {
         self.fired.push(number)?;
         Ok(())

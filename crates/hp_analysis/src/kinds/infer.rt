@@ -6,7 +6,7 @@ mod reads;
 mod solve;
 
 ghost use Rattle.std.specs.Prelude.{◌≡◌, IfOk, OnOk};
-ghost use Rattle.hp_analysis.specs.Declarations.{declared, Keeps};
+ghost use Rattle.hp_analysis.specs.Declarations.{declared, Keeps, KeepsFired};
 
 use crate::kinds::declaration::Declaration;
 use crate::kinds::infer::gather::Gathering;
@@ -18,8 +18,10 @@ use hp_value::RuleNo;
 use std::alloc::{AllocError, Global};
 
 /// Lets statements fire the rules that read no part of their occurrence.
+#[tactic(auto, using(crate::proofs::Signatures::fires_same, crate::proofs::Signatures::fires_more))]
 fn allow_plain_rules(library: &Library, declaration: &mut Declaration) -> Result<(), AllocError>
-    ensures { OnOk result ((declared declaration.new).signatures ≡ (declared declaration.old).signatures) }
+    ensures signatures { OnOk result ((declared declaration.new).signatures ≡ (declared declaration.old).signatures) }
+    ensures fired { OnOk result (KeepsFired (declared declaration.old) (declared declaration.new)) }
 {
     let mut number: RuleNo = 0;
     for rule in library.rules() {
@@ -47,13 +49,15 @@ pub fn infer(alloc: Global, library: &Library, units: &[Unit]) -> Result<Inferre
 /// What a check promises holds for each declaration. So a wrong guess can only make a check refuse what it need not.
 ///
 /// An error means that memory ran out.
+#[tactic(auto, using(crate::proofs::Signatures::fires_same))]
 pub fn infer_with(
     alloc: Global,
     library: &Library,
     units: &[Unit],
     given: Declaration,
 ) -> Result<Inferred, AllocError>
-    ensures { IfOk result (λ inferred. Keeps (declared given) (declared inferred.declaration)) }
+    ensures signatures { IfOk result (λ inferred. Keeps (declared given) (declared inferred.declaration)) }
+    ensures fired { IfOk result (λ inferred. KeepsFired (declared given) (declared inferred.declaration)) }
 {
     let gathering = Gathering::of(alloc, library, units, &given)?;
     let mut inferred = solved(alloc, gathering.arguments, given)?;

@@ -1,6 +1,6 @@
 //! The kinds of arguments, by their uses and by what statements give them.
 
-ghost use Rattle.std.specs.Prelude.{IfOk, OnOk};
+ghost use Rattle.std.specs.Prelude.{◌≡◌, IfOk, OnOk};
 ghost use Rattle.hp_analysis.specs.Declarations.{declared, Keeps};
 
 use crate::kinds::declaration::Declaration;
@@ -239,7 +239,8 @@ fn declare_new(
     sorts: Vec<Sort>,
     declaration: &mut Declaration,
 ) -> Result<(), AllocError>
-    ensures { OnOk result (Keeps (declared declaration.old) (declared declaration.new)) }
+    ensures signatures { OnOk result (Keeps (declared declaration.old) (declared declaration.new)) }
+    ensures fired { OnOk result ((declared declaration.new).fired ≡ (declared declaration.old).fired) }
 {
     if sorts.is_empty() {
         return Ok(());
@@ -258,7 +259,8 @@ pub(crate) fn solved(
     gathered: Arguments,
     given: Declaration,
 ) -> Result<Inferred, AllocError>
-    ensures { IfOk result (λ inferred. Keeps (declared given) (declared inferred.declaration)) }
+    ensures signatures { IfOk result (λ inferred. Keeps (declared given) (declared inferred.declaration)) }
+    ensures fired { IfOk result (λ inferred. (declared inferred.declaration).fired ≡ (declared given).fired) }
 {
     let mut arguments = gathered;
     arguments.settle();
