@@ -1,6 +1,6 @@
 //! What the command line asks for, with the signals that its file declares.
 
-ghost use Rattle.std.specs.Prelude.{◌≡◌, IfOk, option_map, string_bytes};
+ghost use Rattle.std.specs.Prelude.{◌≡◌, None, IfOk, IsOk, option_map, string_bytes};
 ghost use Rattle.hipac_check.specs.Asked.{IsOfWords, AreOfFile, code_unasked};
 
 use hp_analysis::Declaration;
@@ -43,12 +43,13 @@ pub fn asked_of<R: Env + Files + AllocGlobal>(rt: &R) -> Result<Asked, Unasked>
     })
 }
 
-/// The signals of the file, if one is named.
+/// The signals of the file, if one is named. Where none is named, this can't fail.
 fn signals_if<R: Files + AllocGlobal>(
     rt: &R,
     name: &Option<String>,
 ) -> Result<Declaration, SignalsFault>
-    ensures { IfOk result (λ signals. AreOfFile (option_map string_bytes name.now) signals) }
+    ensures signals { IfOk result (λ signals. AreOfFile (option_map string_bytes name.now) signals) }
+    ensures unnamed { name.now ≡ None → IsOk result }
 {
     match name {
         Some(name) => signals_of_file(rt, name),
