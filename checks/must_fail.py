@@ -1,21 +1,22 @@
 #!/usr/bin/env python3
 """Tries the edits of crates/NAME/must-fail: the prover must refuse each of them.
 
-    checks/must_fail.py [--minutes N] [--follow LOG] FOLDER [NAME ..]
+    checks/must_fail.py [--until MOMENT] [--follow LOG] FOLDER [NAME ..]
 
 FOLDER is a copy of this repository in which `rt ci` has proved all crates. Its libraries are used as they are. With
 --follow `rt ci` is still at work there and writes to LOG: the edits of a crate are tried once the crates below it are
-proved, with half of the processors, which `rt ci` has first if it wants them. The
-edits of a crate that change different functions are tried in one check, which looks at these functions and at those
+proved, on at most half of the processors, and only where `rt ci` leaves them idle.
+
+The edits of a crate that change different functions are tried in one check, which looks at these functions and at those
 that they call, and at nothing else: each function is proved against the contracts of the others. An edit is refused if
 the prover complains of the function that it changes. What that doesn't show to be refused is then tried alone, in a
 check of the whole crate, as is an edit of a definition.
 
 An edit isn't counted as refused if the prover complains only of a proof that names what the edit took away, or of a
 search that ended at a limit, or if it can't read the edit: then no contract was shown to fail. As many crates are tried
-side by side as there are processors, and memory for them, quick ones first. With --minutes no check begins after so
-many minutes, and the edits that are left are told. The last line is 'N passed, M failed': an edit has failed if the
-crate is still proved with it.
+side by side as there are processors, and memory for them, quick ones first. With --until no check begins after that
+moment of the system's monotonic clock, in seconds, and the edits that are left are told. The last line is 'N passed, M
+failed': an edit has failed if the crate is still proved with it.
 """
 
 import argparse
@@ -76,9 +77,8 @@ class Proofs:
 class Proved:
     """The crates of a folder in which `rt ci` builds the libraries, or has built them."""
 
-    def __init__(self, folder, minutes=math.inf, log=None):
-        self.top, self.kit, self.known = folder, repo.toolchain(), repo.crates(folder)
-        self.end = time.monotonic() + 60 * minutes
+    def __init__(self, folder, end=math.inf, log=None):
+        self.top, self.kit, self.known, self.end = folder, repo.toolchain(), repo.crates(folder), end
         self.proofs = Proofs(log)
 
     def has_time(self):
@@ -223,7 +223,7 @@ def words_of_command():
     parser = argparse.ArgumentParser(description=__doc__, formatter_class=argparse.RawDescriptionHelpFormatter)
     parser.add_argument("folder", metavar="FOLDER")
     parser.add_argument("crates", nargs="*", metavar="NAME", choices=[*repo.crates(), []])
-    parser.add_argument("--minutes", type=float, default=math.inf, metavar="N")
+    parser.add_argument("--until", type=float, default=math.inf, metavar="MOMENT")
     parser.add_argument("--follow", metavar="LOG")
     return parser.parse_args()
 
@@ -232,7 +232,7 @@ def main():
     words = words_of_command()
     if words.follow:
         give_way()
-    proved = Proved(os.path.abspath(words.folder), words.minutes, words.follow)
+    proved = Proved(os.path.abspath(words.folder), words.until, words.follow)
     crates = words.crates or [name for name in proved.known if repo.edits(name, repo.GATE_EDITS)]
     passed, failed, times = 0, 0, []
     for tries in in_turn(proved, sorted(crates, key=repo.cost_of)):
