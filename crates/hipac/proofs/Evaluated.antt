@@ -1,8 +1,7 @@
 -- A script's text, from the reports of its units and the final state.
-use Rattle.std.proofs.Common.{◌≡◌, refl, sym, ap, subst, ◌∙◌, List, ℕ, Bool, true, false, Result, Ok, Err, length, arith}
-use Rattle.std.proofs.lemmas.List.{take_all}
+use Rattle.std.proofs.Common.{◌≡◌, refl, sym, ap, subst, List, ℕ, Bool, true, false, Result, Ok, Err, length}
 use Rattle.hp_model.specs.State.{initial_state}
-use Rattle.hp_model.specs.Cascade.{Script, UnitReport, run_units, evaluate}
+use Rattle.hp_model.specs.Cascade.{Script, UnitReport, evaluate}
 use Rattle.hp_model.specs.Cells.{Cells}
 use Rattle.hp_model.specs.Soundness.{LeadsTo}
 use Rattle.hp_model.specs.Report.{Bytes, report_text}
@@ -17,19 +16,18 @@ use Rattle.hp_report.specs.Mapped.{evaluation}
 use Rattle.hp_report.specs.Stored.{OfEach}
 use Rattle.hp_report.specs.declared.status.Status.TheVariants.{Reported, Refused}
 use Rattle.hp_top.specs.Units.{RanUnits, IsOpening}
+use Rattle.hp_top.proofs.AllRan.{all_ran}
 use Rattle.hp_notation.specs.Readings.{told, script_in}
 use Rattle.hp_notation.proofs.Told.{told_ok}
 use Rattle.hipac.specs.Ends.{status_for, status_of, IsReportOf}
 
--- all units ran, so the reports and the cells are those of the script
-pub all_ran : (script : Script) (before after : Cells) (reports : List UnitReport)
+-- all units of the script ran, so the reports and the cells are its own
+pub script_ran : (script : Script) (before after : Cells) (reports : List UnitReport)
     → IsOpening before → RanUnits script.library script.units before after reports → length reports ≡ length script.units
     → LeadsTo script.library (evaluate script).units (evaluate script).state reports after
-all_ran script before after reports opening ran all =
+script_ran script before after reports opening ran all =
     let library = script.library in
-    let start = initial_state library in
-    subst (λ us. LeadsTo library (run_units library us start).units (run_units library us start).state reports after) (take_all (length reports) script.units (omega (arith, all)))
-    (ran.from start (opening.ordered library) (opening.cells library))
+    all_ran library script.units before after reports (initial_state library) ran all (opening.ordered library) (opening.cells library)
 
 -- what holds of the text of each state that has the cells holds of the script's text
 pub of_script : (report : Report) (script : Script) (with_tree : Bool) (Holds : Bytes → Type 0) → IsReportOf report script

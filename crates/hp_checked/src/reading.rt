@@ -6,7 +6,7 @@ ghost use Rattle.hp_script.specs.Asked as asked;
 ghost use Rattle.hp_script.specs.Mapped.{timed_script};
 ghost use Rattle.hp_script.specs.Versions.{version_view};
 ghost use Rattle.hp_notation.specs.Readings.{timed_script_in, request_in, Reads};
-ghost use Rattle.hp_analysis.specs.Declarations.{declared, Keeps};
+ghost use Rattle.hp_analysis.specs.Declarations.{declared, Keeps, KeepsFired};
 ghost use Rattle.hp_lines.specs.Checked as definitions;
 ghost use Rattle.hp_lines.specs.Checked.{passed, checked_by};
 ghost use Rattle.hp_checked.specs.Readings.{declared_for};
@@ -112,7 +112,8 @@ pub fn declaration_for(
     is_text: bool,
     given: Declaration,
 ) -> Result<Declaration, AllocError>
-    ensures { IfOk result (λ declaration. Keeps (declared given) (declared declaration)) }
+    ensures signatures { IfOk result (λ declaration. Keeps (declared given) (declared declaration)) }
+    ensures fired { IfOk result (λ declaration. KeepsFired (declared given) (declared declaration)) }
 {
     match read_script(alloc, bytes, is_text) {
         Ok(script) => {

@@ -1,6 +1,6 @@
 //! Composite events.
 
-ghost use Rattle.std.specs.Prelude.{◌≡◌, ◌∷◌, true, option_map, IfOk};
+ghost use Rattle.std.specs.Prelude.{◌≡◌, ◌∷◌, true, option_map, IfOk, OnErr};
 ghost use Rattle.hp_model.specs.Events as model;
 ghost use Rattle.hp_model.specs.Occurrences.{History};
 ghost use Rattle.hp_value.specs.Mapped.{primitive, occurrence};
@@ -95,8 +95,9 @@ pub fn occurs_now(
     prim: &Prim,
 ) -> Result<Option<Occurrence>, AllocError>
     requires { model.is_pure (event expr.now) ≡ true }
-    ensures { IfOk result (λ o. (past : History) →
+    ensures occurs { IfOk result (λ o. (past : History) →
         option_map occurrence o ≡ model.occurrence_of (event expr.now) (primitive prim.now ∷ past)) }
+    ensures unmentioned { OnErr result (model.mentions (event expr.now) (primitive prim.now) ≡ true) }
 {
     if !expr.mentions(prim) {
         return Ok(None);

@@ -23,7 +23,7 @@ pub use file::bytes_of_file;
 pub use input::{ReadFault, read_up_to};
 pub use output::{WriteFault, write_text};
 pub use parts::units_text;
-pub use report::{Report, RuleStatus, write_report};
+pub use report::{Report, write_report};
 pub use status::{Status, exit_code};
 pub use stored::{class_text, object_text, state_text};
 pub use watched::Watched;

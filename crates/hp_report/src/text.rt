@@ -7,7 +7,7 @@ mod tree;
 mod units;
 mod words;
 
-pub use objects::{put_fields, put_object_line};
+pub use objects::put_object_line;
 pub use state::{put_final, put_state};
 pub use units::put_units;
 pub use words::put_value;

@@ -4,3 +4,4 @@ pub mod Ended
 pub mod Cascading
 pub mod Attempted
 pub mod Keeping
+pub mod AllRan

@@ -13,7 +13,7 @@ use std::alloc::{AllocError, Global};
 use std::fmt::Write;
 
 /// The fields of a row with their values, each after a space.
-pub fn put_fields(alloc: Global, out: &mut String, row: &Row) -> Result<(), AllocError>
+fn put_fields(alloc: Global, out: &mut String, row: &Row) -> Result<(), AllocError>
     ensures { OnOk result (Gains out.old out.new (spaced (row_words row.now))) }
 {
     for index in 0..row.len() {

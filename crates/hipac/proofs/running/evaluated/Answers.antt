@@ -5,7 +5,7 @@ use Rattle.hp_store.specs.Stack.{cells_in}
 use Rattle.hp_report.specs.Mapped.{library, unit_report}
 use Rattle.hp_script.specs.Mapped.{script as script_of_model}
 use Rattle.hp_top.specs.Units.{RanUnits}
-use Rattle.hipac.proofs.Evaluated.{all_ran}
+use Rattle.hipac.proofs.Evaluated.{script_ran}
 use Rattle.hipac.proofs.running.evaluated.Goals as goal
 
 pub returns : goal.returns
@@ -26,5 +26,5 @@ returns g c =
     length-map c.in_ok-units.units.items unit_report ∙ ap (λ v. length v.items) c.in_ok-units.ensures.all
     ∙ c.run_items-ran.ensures.all c.in_ok-units.ensures.unstopped
     ∙ ap length c.deref-2.ensures.value ∙ sym (length-map c.args.script.items.items unit_of) in
-    let led = all_ran script before after reports c.in_ok-store.ensures ran all in
+    let led = script_ran script before after reports c.in_ok-store.ensures ran all in
     record { library_is = refl; units_are = sym led.answers; ordered = led.ordered; cells_are = led.reaches }
