@@ -28,7 +28,8 @@ pub fn units_text(
         classes: library.classes(),
         rules: library.rules(),
     };
-    let mut out = String::new(alloc);
+    // Room for the line of one unit and the end of an answer, so that a short answer doesn't grow step by step.
+    let mut out = String::with_capacity(alloc, 64)?;
     put_units(alloc, &mut out, &names, with_tree, first, units)?;
     Ok(out)
 }

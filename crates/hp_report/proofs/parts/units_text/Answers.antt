@@ -11,5 +11,5 @@ returns c =
     let us = map model.unit_report c.args.units.now in
     let classes : names.classes ≡ library.classes = search rules in
     let rules_are : names.rules ≡ library.rules = search rules in
-    c.in_ok-put_units.ensures ∙ ap (λ (b : Bytes). b ++ units_text names c.args.with_tree c.args.first us) c.new-out.ensures.bytes
+    c.in_ok-put_units.ensures ∙ ap (λ (b : Bytes). b ++ units_text names c.args.with_tree c.args.first us) c.in_ok-out.ensures.bytes
     ∙ same_units names library c.args.with_tree c.args.first us classes rules_are
