@@ -6,3 +6,4 @@ pub mod Nodes
 pub mod Numbers
 pub mod Words
 pub mod Spans
+pub mod Lengths

@@ -1,9 +1,9 @@
 //! The reserved words and the symbols.
 
-ghost use Rattle.std.specs.Prelude.{◌≡◌, option_map};
+ghost use Rattle.std.specs.Prelude.{◌≡◌, length, option_map};
 ghost use Rattle.hp_model.specs.NotationTokens.{spelling, reserved_word};
 ghost use Rattle.hp_text.specs.Mapped.{mark_view};
-ghost use Rattle.hp_text.specs.Words.{operand_word, mode_word, statement_word, operation_word};
+ghost use Rattle.hp_text.specs.Words.{among, of_2, of_3, of_4, of_5, of_6, of_7, of_8, of_9};
 
 /// A reserved word or a symbol of the notation.
 #[derive(Clone, Copy, Debug, PartialEq, Eq)]
@@ -143,87 +143,133 @@ impl Mark {
 }
 
 /// The reserved word that `word` is, or `None` where it may be a name. A printer quotes the names that are reserved.
-#[tactic(auto, unfolding(hp_model::specs::NotationTokens::reserved_word))]
+///
+/// It is compared with the reserved words of its length alone.
+#[tactic(auto, using(crate::proofs::Lengths::two, crate::proofs::Lengths::three, crate::proofs::Lengths::four, crate::proofs::Lengths::five, crate::proofs::Lengths::six, crate::proofs::Lengths::seven, crate::proofs::Lengths::eight, crate::proofs::Lengths::nine))]
 pub fn reserved(word: &str) -> Option<Mark>
     ensures { option_map mark_view result ≡ reserved_word word.now }
+{
+    match word.len() {
+        2 => word_of_2(word),
+        3 => word_of_3(word),
+        4 => word_of_4(word),
+        5 => word_of_5(word),
+        6 => word_of_6(word),
+        7 => word_of_7(word),
+        8 => word_of_8(word),
+        9 => word_of_9(word),
+        _ => None,
+    }
+}
+
+/// The reserved word of two letters that this is.
+fn word_of_2(word: &str) -> Option<Mark>
+    ensures { option_map mark_view result ≡ among of_2 word.now }
 {
     match word {
         "on" => Some(Mark::On),
         "if" => Some(Mark::If),
         "do" => Some(Mark::Do),
-        "where" => Some(Mark::Where),
         "as" => Some(Mark::As),
-        "set" => Some(Mark::Set),
-        "else" => Some(Mark::Else),
-        "otherwise" => Some(Mark::Otherwise),
-        "then" => Some(Mark::Then),
-        "until" => Some(Mark::Until),
-        _ => operand_word(word),
+        "or" => Some(Mark::Or),
+        _ => None,
     }
 }
 
-/// The reserved word that this is, if it is none of those between the parts of rules and statements.
-fn operand_word(word: &str) -> Option<Mark>
-    ensures { option_map mark_view result ≡ operand_word word.now }
+/// The reserved word of three letters that this is.
+fn word_of_3(word: &str) -> Option<Mark>
+    ensures { option_map mark_view result ≡ among of_3 word.now }
 {
     match word {
+        "set" => Some(Mark::Set),
         "and" => Some(Mark::And),
-        "or" => Some(Mark::Or),
         "not" => Some(Mark::Not),
-        "true" => Some(Mark::True),
-        "false" => Some(Mark::False),
         "new" => Some(Mark::New),
         "old" => Some(Mark::Old),
-        "event" => Some(Mark::Event),
         "key" => Some(Mark::Key),
-        _ => mode_word(word),
+        "for" => Some(Mark::For),
+        "sub" => Some(Mark::Sub),
+        _ => None,
     }
 }
 
-/// The reserved word that this is, if it names a mode, or belongs to a statement.
-fn mode_word(word: &str) -> Option<Mark>
-    ensures { option_map mark_view result ≡ mode_word word.now }
+/// The reserved word of four letters that this is.
+fn word_of_4(word: &str) -> Option<Mark>
+    ensures { option_map mark_view result ≡ among of_4 word.now }
 {
     match word {
-        "immediate" => Some(Mark::Immediate),
-        "deferred" => Some(Mark::Deferred),
-        "separate" => Some(Mark::Separate),
-        "dependent" => Some(Mark::Dependent),
-        "exclusive" => Some(Mark::Exclusive),
-        _ => statement_word(word),
+        "else" => Some(Mark::Else),
+        "then" => Some(Mark::Then),
+        "true" => Some(Mark::True),
+        "emit" => Some(Mark::Emit),
+        "each" => Some(Mark::Each),
+        "with" => Some(Mark::With),
+        "veto" => Some(Mark::Veto),
+        "fire" => Some(Mark::Fire),
+        _ => None,
     }
 }
 
-/// The reserved word that this is, if it belongs to a statement.
-fn statement_word(word: &str) -> Option<Mark>
-    ensures { option_map mark_view result ≡ statement_word word.now }
+/// The reserved word of five letters that this is.
+fn word_of_5(word: &str) -> Option<Mark>
+    ensures { option_map mark_view result ≡ among of_5 word.now }
+{
+    match word {
+        "where" => Some(Mark::Where),
+        "until" => Some(Mark::Until),
+        "false" => Some(Mark::False),
+        "event" => Some(Mark::Event),
+        "abort" => Some(Mark::Abort),
+        _ => None,
+    }
+}
+
+/// The reserved word of six letters that this is.
+fn word_of_6(word: &str) -> Option<Mark>
+    ensures { option_map mark_view result ≡ among of_6 word.now }
 {
     match word {
         "create" => Some(Mark::Create),
         "update" => Some(Mark::Update),
         "delete" => Some(Mark::Delete),
         "signal" => Some(Mark::Signal),
-        "emit" => Some(Mark::Emit),
-        "each" => Some(Mark::Each),
-        "for" => Some(Mark::For),
-        "with" => Some(Mark::With),
-        "sub" => Some(Mark::Sub),
-        "abort" => Some(Mark::Abort),
-        "veto" => Some(Mark::Veto),
-        _ => operation_word(word),
+        "enable" => Some(Mark::Enable),
+        "remove" => Some(Mark::Remove),
+        _ => None,
     }
 }
 
-/// The reserved word that this is, if it says what is done to a rule.
-fn operation_word(word: &str) -> Option<Mark>
-    ensures { option_map mark_view result ≡ operation_word word.now }
+/// The reserved word of seven letters that this is.
+fn word_of_7(word: &str) -> Option<Mark>
+    ensures { option_map mark_view result ≡ among of_7 word.now }
 {
     match word {
         "install" => Some(Mark::Install),
-        "enable" => Some(Mark::Enable),
         "disable" => Some(Mark::Disable),
-        "remove" => Some(Mark::Remove),
-        "fire" => Some(Mark::Fire),
+        _ => None,
+    }
+}
+
+/// The reserved word of eight letters that this is.
+fn word_of_8(word: &str) -> Option<Mark>
+    ensures { option_map mark_view result ≡ among of_8 word.now }
+{
+    match word {
+        "deferred" => Some(Mark::Deferred),
+        "separate" => Some(Mark::Separate),
+        _ => None,
+    }
+}
+
+/// The reserved word of nine letters that this is.
+fn word_of_9(word: &str) -> Option<Mark>
+    ensures { option_map mark_view result ≡ among of_9 word.now }
+{
+    match word {
+        "otherwise" => Some(Mark::Otherwise),
+        "immediate" => Some(Mark::Immediate),
+        "dependent" => Some(Mark::Dependent),
+        "exclusive" => Some(Mark::Exclusive),
         _ => None,
     }
 }
