@@ -27,7 +27,8 @@ static hipac_base base = HIPAC_NONE;
 static sqlite3 *store;
 static sqlite3_stmt *statement;
 
-static double by_hipac(long first, long count, int is_text) {
+/* (not inlined: callgrind counts what runs inside) */
+__attribute__((noinline)) static double by_hipac(long first, long count, int is_text) {
     char line[200];
     const uint8_t *answer;
     size_t length;
@@ -40,7 +41,7 @@ static double by_hipac(long first, long count, int is_text) {
     return (now() - begun) / count;
 }
 
-static double by_sqlite(long first, long count) {
+__attribute__((noinline)) static double by_sqlite(long first, long count) {
     double begun = now();
     for (long number = first; number < first + count; number++) {
         check(sqlite3_bind_int64(statement, 1, number) == SQLITE_OK, "a value");

@@ -1,7 +1,7 @@
 #!/usr/bin/env python3
 """Measures the library for C beside sqlite3, in one process each, and prints the table of bench/README.md on it.
 
-    bench/in_process.py LIBRARY [--times N] [--updates N]
+    bench/in_process.py LIBRARY [--times N] [--updates N] [--instructions]
 
 LIBRARY is the proved libhipac.so, which `./build hipac_c` makes; libhipac.a lies beside it. Each update is a line of
 its own, on which one rule fires to keep a sum. In sqlite3, over a database in memory, it is a statement that was
@@ -9,12 +9,15 @@ prepared once, with a trigger, each a transaction of its own. From C both run in
 makes with Debian's libsqlite3-dev), from Python both in this one: the client's `Base` beside the module sqlite3. Both
 keep the texts that they have seen. They take turns, N times (21) of so many updates (20,000), so that the load of the
 machine falls on both; the table has the medians, and the median of their ratios.
+
+With `--instructions` it counts the instructions of an update from C, by callgrind, in place of its time.
 """
 
 from __future__ import annotations
 
 import argparse
 import os
+import re
 import sqlite3
 import statistics
 import subprocess
@@ -24,7 +27,7 @@ import time
 from collections.abc import Callable
 
 from live import SQL, script_of
-from measuring import heading
+from measuring import CALLGRIND, heading
 
 TOP = os.path.dirname(os.path.dirname(os.path.abspath(__file__)))
 sys.path.insert(0, os.path.join(TOP, "clients", "python"))
@@ -51,8 +54,12 @@ SCRIPTS = {"text": TEXT, "JSON": script_of([])}
 Pairs = list[tuple[float, float]]
 
 
-def from_c(given: argparse.Namespace, notation: str, room: str) -> Pairs:
-    """Nanoseconds of an update by the library and by sqlite3, each time."""
+# glibc clears memory by one instruction, which callgrind counts by the byte; with this by vectors, as it counts the rest.
+BY_VECTORS = {"GLIBC_TUNABLES": "glibc.cpu.x86_rep_stosb_threshold=1000000000"}
+
+
+def made(given: argparse.Namespace, notation: str, room: str) -> list[str]:
+    """Makes the program in C, and gives the words that run it."""
     program, path = os.path.join(room, "in_process"), os.path.join(room, "script")
     archive = os.path.join(os.path.dirname(os.path.abspath(given.library)), "libhipac.a")
     source = os.path.join(TOP, "bench", "in_process.c")
@@ -60,9 +67,29 @@ def from_c(given: argparse.Namespace, notation: str, room: str) -> Pairs:
                    check=True)
     with open(path, "w", encoding="utf-8") as file:
         file.write(SCRIPTS[notation])
-    words = [program, path, " ".join(SQL), str(given.times), str(given.updates), notation]
-    said = subprocess.run(words, stdout=subprocess.PIPE, text=True, check=True).stdout
+    return [program, path, " ".join(SQL), str(given.times), str(given.updates), notation]
+
+
+def from_c(given: argparse.Namespace, notation: str, room: str) -> Pairs:
+    """Nanoseconds of an update by the library and by sqlite3, each time."""
+    said = subprocess.run(made(given, notation, room), stdout=subprocess.PIPE, text=True, check=True).stdout
     return [(float(ours), float(theirs)) for ours, theirs in map(str.split, said.splitlines())]
+
+
+def counted(given: argparse.Namespace, notation: str, room: str) -> list[float]:
+    """Thousands of instructions of an update by the library and by sqlite3."""
+    words, counts = made(given, notation, room), []
+    for function in ("by_hipac", "by_sqlite"):
+        path = os.path.join(room, "counts")
+        count = [*CALLGRIND, f"--toggle-collect={function}", f"--callgrind-out-file={path}"]
+        subprocess.run([*count, *words], check=True, env={**os.environ, **BY_VECTORS}, stdout=subprocess.DEVNULL,
+                       stderr=subprocess.DEVNULL)
+        with open(path, encoding="utf-8") as file:
+            total = re.search(r"(?m)^(?:summary|totals): (\d+)", file.read())
+        if not total:
+            sys.exit("callgrind counts nothing")
+        counts.append(int(total[1]) / (given.times * given.updates) / 1000)
+    return counts
 
 
 def timed(update: Callable[[int], object], first: int, count: int) -> float:
@@ -107,14 +134,25 @@ def row(name: str, pairs: Pairs) -> None:
     print(f"| {name} | {ours:.2f} | {theirs:.2f} | {ratio:.2f} |", flush=True)
 
 
+def print_counts(given: argparse.Namespace, room: str) -> None:
+    heading(["One update with one firing, thousands of instructions", "hipac", "sqlite3", "hipac / sqlite3"])
+    for notation in SCRIPTS:
+        ours, theirs = counted(given, notation, room)
+        print(f"| from C, a line of {notation} | {ours:.1f} | {theirs:.1f} | {ours / theirs:.2f} |", flush=True)
+
+
 def main() -> None:
     words = argparse.ArgumentParser(description=__doc__, formatter_class=argparse.RawDescriptionHelpFormatter)
     words.add_argument("library", metavar="LIBRARY")
     words.add_argument("--times", type=int, default=21, help="how often they take turns")
     words.add_argument("--updates", type=int, default=20_000, help="how many updates each turn has")
+    words.add_argument("--instructions", action="store_true", help="counts instructions in place of time, from C")
     given = words.parse_args()
-    heading(["One update with one firing", "hipac, us", "sqlite3, us", "hipac / sqlite3"])
     with tempfile.TemporaryDirectory(prefix="in-process-") as room:
+        if given.instructions:
+            print_counts(given, room)
+            return
+        heading(["One update with one firing", "hipac, us", "sqlite3, us", "hipac / sqlite3"])
         for notation in SCRIPTS:
             row(f"from C, a line of {notation}", from_c(given, notation, room))
         for notation in SCRIPTS:
