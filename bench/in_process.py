@@ -53,8 +53,7 @@ SCRIPTS = {"text": TEXT, "JSON": script_of([])}
 
 Pairs = list[tuple[float, float]]
 
-
-# glibc clears memory by one instruction, which callgrind counts by the byte; with this by vectors, as it counts the rest.
+# glibc clears memory by one instruction, which callgrind counts by the byte. With this it uses vectors.
 BY_VECTORS = {"GLIBC_TUNABLES": "glibc.cpu.x86_rep_stosb_threshold=1000000000"}
 
 
