@@ -1,6 +1,6 @@
 //! The reserved words and the symbols.
 
-ghost use Rattle.std.specs.Prelude.{◌≡◌, length, option_map};
+ghost use Rattle.std.specs.Prelude.{◌≡◌, option_map};
 ghost use Rattle.hp_model.specs.NotationTokens.{spelling, reserved_word};
 ghost use Rattle.hp_text.specs.Mapped.{mark_view};
 ghost use Rattle.hp_text.specs.Words.{among, of_2, of_3, of_4, of_5, of_6, of_7, of_8, of_9};
