@@ -27,7 +27,7 @@ static hipac_base base = HIPAC_NONE;
 static sqlite3 *store;
 static sqlite3_stmt *statement;
 
-/* (not inlined: callgrind counts what runs inside) */
+/* This and by_sqlite aren't inlined, so that callgrind can count what runs inside each. */
 __attribute__((noinline)) static double by_hipac(long first, long count, int is_text) {
     char line[200];
     const uint8_t *answer;

@@ -17,7 +17,6 @@ from __future__ import annotations
 
 import argparse
 import os
-import re
 import sqlite3
 import statistics
 import subprocess
@@ -27,7 +26,7 @@ import time
 from collections.abc import Callable
 
 from live import SQL, script_of
-from measuring import CALLGRIND, heading
+from measuring import heading, instructions_of
 
 TOP = os.path.dirname(os.path.dirname(os.path.abspath(__file__)))
 sys.path.insert(0, os.path.join(TOP, "clients", "python"))
@@ -77,18 +76,10 @@ def from_c(given: argparse.Namespace, notation: str, room: str) -> Pairs:
 
 def counted(given: argparse.Namespace, notation: str, room: str) -> list[float]:
     """Thousands of instructions of an update by the library and by sqlite3."""
-    words, counts = made(given, notation, room), []
-    for function in ("by_hipac", "by_sqlite"):
-        path = os.path.join(room, "counts")
-        count = [*CALLGRIND, f"--toggle-collect={function}", f"--callgrind-out-file={path}"]
-        subprocess.run([*count, *words], check=True, env={**os.environ, **BY_VECTORS}, stdout=subprocess.DEVNULL,
-                       stderr=subprocess.DEVNULL)
-        with open(path, encoding="utf-8") as file:
-            total = re.search(r"(?m)^(?:summary|totals): (\d+)", file.read())
-        if not total:
-            sys.exit("callgrind counts nothing")
-        counts.append(int(total[1]) / (given.times * given.updates) / 1000)
-    return counts
+    words, environment = made(given, notation, room), {**os.environ, **BY_VECTORS}
+    totals = [instructions_of(words, environment=environment, options=[f"--toggle-collect={function}"])
+              for function in ("by_hipac", "by_sqlite")]
+    return [total / (given.times * given.updates) / 1000 for total in totals]
 
 
 def timed(update: Callable[[int], object], first: int, count: int) -> float:

@@ -45,16 +45,8 @@ class Command:
 
     def instructions(self):
         """The number of instructions, by callgrind."""
-        with tempfile.TemporaryDirectory() as folder:
-            counts = os.path.join(folder, "counts")
-            with open(written(folder, self.text), "rb") as given:
-                subprocess.run([*CALLGRIND, f"--callgrind-out-file={counts}", *self.words], stdin=given, check=False,
-                               env=ENVIRONMENT, stdout=subprocess.DEVNULL, stderr=subprocess.DEVNULL)
-            with open(counts) as file:
-                found = re.search(r"(?m)^(?:summary|totals): (\d+)", file.read())
-        if not found:
-            sys.exit(f"{self.words}: callgrind counts nothing")
-        return int(found[1])
+        with tempfile.TemporaryDirectory() as folder, open(written(folder, self.text), "rb") as given:
+            return instructions_of(self.words, given)
 
 
 class Prepared(Command):
@@ -67,6 +59,19 @@ class Prepared(Command):
         _, out = super().timed()
         seconds, out = out.split(b"\n", 1)
         return float(seconds), out
+
+
+def instructions_of(words, given=subprocess.DEVNULL, environment=ENVIRONMENT, options=()):
+    """The number of instructions that a command takes with this input, by callgrind with these options."""
+    with tempfile.TemporaryDirectory() as folder:
+        counts = os.path.join(folder, "counts")
+        subprocess.run([*CALLGRIND, *options, f"--callgrind-out-file={counts}", *words], stdin=given, check=False,
+                       env=environment, stdout=subprocess.DEVNULL, stderr=subprocess.DEVNULL)
+        with open(counts) as file:
+            found = re.search(r"(?m)^(?:summary|totals): (\d+)", file.read())
+    if not found:
+        sys.exit(f"{words}: callgrind counts nothing")
+    return int(found[1])
 
 
 def written(folder, text):

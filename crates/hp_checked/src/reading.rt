@@ -101,7 +101,8 @@ impl Reading<'_> {
 }
 
 /// A declaration for the script in these bytes, in which the signals that are given keep their signatures. The others
-/// are found by how the script's rules use their arguments; if the bytes are no script, there are no others.
+/// are found by how the script's rules use their arguments; if the bytes are no script, there are no others. Statements
+/// may fire at least the rules that the given declaration lets them fire.
 ///
 /// A rule base may be checked by any declaration. So a wrong guess can only refuse what need not be refused.
 ///

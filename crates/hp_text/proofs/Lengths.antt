@@ -66,6 +66,7 @@ eight w e = sym (in_table w 8 e)
 pub nine : (w : List ℕ) → length w ≡ 9 → among of_9 w ≡ reserved_word w
 nine w e = sym (in_table w 9 e)
 
+-- reserved words have at most nine letters
 abbrev is_short : {A : Type 0} → List ℕ × A → Bool
 is_short e = nat_lt (length e.0) 10
 
@@ -80,6 +81,7 @@ all_short : {A : Type 0} (n : ℕ) (es : List (List ℕ × A)) → list_all is_s
 all_short n [] all long = refl
 all_short n (e ∷ es) all long = first_short n e es (is_short e) refl all long (λ rest. all_short n es rest long)
 
+-- no reserved word has another length
 others : (n : ℕ) → (2 ≤ n → n ≤ 9 → ⊥) → table n ≡ []
 others zero h = refl
 others (suc zero) h = refl
