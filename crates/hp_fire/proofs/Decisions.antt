@@ -18,9 +18,8 @@ use Rattle.hp_view.proofs.Views.{GoesOn-same, GoesOn-then}
 use Rattle.hp_view.proofs.Reading.{GoesOn-only}
 use Rattle.hp_fire.specs.declared.deciding.Decision.{Decision}
 use Rattle.hp_fire.specs.declared.deciding.Decision.TheVariants.{Over, Acts}
-use Rattle.hp_attempt.specs.Mapped.{firing}
 use Rattle.hp_fire.specs.Runs.{RunsFiring}
-use Rattle.hp_fire.specs.Decides.{ThenActs, DecidesFor, Decides}
+use Rattle.hp_fire.specs.Decides.{ThenActs, DecidesFor, Decides, standing_in}
 use Rattle.hp_fire.proofs.Steps.{only_written, grows}
 
 -- ---- a satisfied condition
@@ -79,8 +78,8 @@ pub condition_decides : (library : Library) (t : Task) (v : Verdict) (old new : 
     → DecidesFor library (decide v (level_at library t.now t.depth) t) t new new d → Decides library t old new d
 condition_decides library t v old new (Over o) step only finds p = record {
   goes_on = GoesOn-only only;
-  faithful = subst (λ s. FaithfulFiring library (λ S. take_step s (level_at library t.now t.depth) t S) new.reads (written old) (written new) (firing o)) (sym step)
-      (subst (λ w. FaithfulFiring library (take_step condition_step (level_at library t.now t.depth) t) new.reads w (written new) (firing o)) (only_written only)
+  faithful = subst (λ s. FaithfulFiring library (λ S. take_step s (level_at library t.now t.depth) t S) new.reads (written old) (written new) (standing_in o)) (sym step)
+      (subst (λ w. FaithfulFiring library (take_step condition_step (level_at library t.now t.depth) t) new.reads w (written new) (standing_in o)) (only_written only)
       (faithful_condition (level_at library t.now t.depth) t v finds p.faithful));
 }
 condition_decides library t v old new (Acts node found) step only finds p = condition_acts library t v step only finds p

@@ -1,3 +1,4 @@
+mod Adding
 mod Attempts
 mod Coming
 mod Decisions

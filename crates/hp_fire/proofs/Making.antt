@@ -1,5 +1,5 @@
 -- Statements before their event is signalled.
-use Rattle.std.proofs.Common.{◌≡◌, sym, ap, ◌∙◌, ℕ, ℤ, List, ◌++◌}
+use Rattle.std.proofs.Common.{◌≡◌, refl, sym, ap, ◌∙◌, ℕ, ℤ, List, ◌++◌}
 use Rattle.std.specs.Prelude.{Result, Ok, Err, Option, Some, None, ⊤}
 use Rattle.hp_model.specs.Values.{Value, Row, KeyedRow, Cause, missing, Outcome, ◌>>=◌, or_cause}
 use Rattle.hp_model.specs.Occurrences.{Primitive}
@@ -32,10 +32,10 @@ use Rattle.hp_fire.proofs.Steps.{runs_as, runs_cause, runs_value}
 -- ---- values that don't depend on the state
 
 -- a statement whose value is a cause, or for which memory ran out
-pub steps_halt : {A B : Type 0} (f : A → B) (next : State → B → Work) (o : Outcome B) (h : Halt) (library : Library) (v : Seeing) → Meets f (Err h) o
-    → Steps library (λ S. with_value o (next S) S) v v (Err h)
-steps_halt f next o (ByCause c) library v is = runs_cause next o (cause c) v is
-steps_halt f next o Memory library v is = tt
+pub steps_halt : {A B : Type 0} (a : Answer) (f : A → B) (next : State → B → Work) (o : Outcome B) (h : Halt) (library : Library) (v : Seeing) → Meets f (Err h) o
+    → Steps library (λ S. with_value o (next S) S) v v a a (Err h)
+steps_halt a f next o (ByCause c) library v is = (refl, runs_cause next o (cause c) v is)
+steps_halt a f next o Memory library v is = tt
 
 pub makes_halt : {A B X : Type 0} (f : A → B) (g : X → Primitive) (next : State → B → Work) (o : Outcome B) (h : Halt) (library : Library) (level : Level) (v : Seeing) → Meets f (Err h) o
     → Makes g library level (λ S. with_value o (next S) S) v v (Err h)
@@ -145,11 +145,11 @@ pub emit_runs : (library : Library) (level : Level) (context : Context) (e : Exp
 emit_runs library level context e v view is =
     runs_value (λ x. with_items (emission x no_items)) (value_of context.environment e) v is (record { goes_on = GoesOn-same view; faithful = faithful_items (emission v no_items) })
 
-pub rule_halt : (library : Library) (level : Level) (context : Context) (op : RuleOperation) (n : ℕ) (h : Halt) (v w : Seeing) → GoesOn v w
+pub rule_halt : (a : Answer) (library : Library) (level : Level) (context : Context) (op : RuleOperation) (n : ℕ) (h : Halt) (v w : Seeing) → GoesOn v w
     → Performs (λ (u : ⊤). tt) library (set_rule op n) v w (Err h)
-    → Steps library (run_statement (on_rule op n) level context) v w (Err h)
-rule_halt library level context op n (ByCause c) v w on performs = record { goes_on = on; faithful = faithful_rule_statement_refused op n performs }
-rule_halt library level context op n Memory v w on performs = tt
+    → Steps library (run_statement (on_rule op n) level context) v w a a (Err h)
+rule_halt a library level context op n (ByCause c) v w on performs = (refl, record { goes_on = on; faithful = faithful_rule_statement_refused op n performs })
+rule_halt a library level context op n Memory v w on performs = tt
 
 pub rule_runs : (library : Library) (level : Level) (context : Context) (op : RuleOperation) (n : ℕ) (v w : Seeing) → GoesOn v w
     → FaithfulOperation library (set_rule op n) w.reads (written v) (written w) (Ok tt)

@@ -55,10 +55,10 @@ pub are_ready : (lib : RustLibrary) (depth : ℕ) (result : Result (Vec RustTask
     → AreReady (library lib) depth (map task tasks.items)
 are_ready lib depth result tasks is ready = subst (λ (r : Result (Vec RustTask) Halt). IfOk r (λ ts. AreReady (library lib) depth (map task ts.items))) is ready
 
-pub start_none : (library : Library) (depth : ℕ) {tasks : List Task} → tasks ≡ [] → (v : Seeing) (a : Answer) → a ≡ ended done → Runs library (start (level_at library 0 depth).below tasks) v v a
-start_none library depth {tasks} none v a is =
-    subst (λ ts. Runs library (start (level_at library 0 depth).below ts) v v a) (sym none)
-    (runs_answer is (record { goes_on = GoesOn-same v; faithful = faithful_start_none (level_at library 0 depth).below }))
+pub start_none : (library : Library) (depth : ℕ) {tasks : List Task} → tasks ≡ [] → (v : Seeing) → Runs library (start (level_at library 0 depth).below tasks) v v (ended done)
+start_none library depth {tasks} none v =
+    subst (λ ts. Runs library (start (level_at library 0 depth).below ts) v v (ended done)) (sym none)
+    (record { goes_on = GoesOn-same v; faithful = faithful_start_none (level_at library 0 depth).below })
 
 -- ---- tasks of a depth
 

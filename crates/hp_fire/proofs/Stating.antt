@@ -1,6 +1,6 @@
 -- Statements by their parts.
 use Rattle.std.proofs.Common.{◌≡◌, refl, sym, ap, ◌∙◌, subst, ℕ, List, [], ◌∷◌}
-use Rattle.std.specs.Prelude.{Option, Some, None, Result, Ok, Err, String, string_bytes}
+use Rattle.std.specs.Prelude.{⊤, Option, Some, None, Result, Ok, Err, String, string_bytes}
 use Rattle.std.specs.Global.{Global, Vec, Box}
 use Rattle.std.proofs.Common.{rules}
 use Rattle.hp_model.specs.Values.{Name, NamedValues, Value, Outcome}
@@ -17,7 +17,7 @@ use Rattle.hp_model.specs.Cells.{Read, Changes}
 use Rattle.hp_model.specs.Soundness.{Answer}
 use Rattle.hp_model.specs.Answers.{FaithfulWork, ended, tells, followed}
 use Rattle.hp_model.specs.Operations.{operation_items}
-use Rattle.hp_model.proofs.Faithful.{finds_more}
+use Rattle.hp_model.proofs.Faithful.{finds_more, followed-assoc}
 use Rattle.hp_model.proofs.FaithfulOperations.{faithful_fire}
 use Rattle.hp_value.specs.declared.halt.Halt.{Halt}
 use Rattle.hp_value.specs.declared.halt.Halt.TheVariants.{Cause as ByCause, Memory}
@@ -34,29 +34,25 @@ use Rattle.hp_rule.proofs.Bodies.{row_body_lem}
 use Rattle.hp_view.specs.Seeing.{Seeing, written, OnlyReads}
 use Rattle.hp_view.proofs.Views.{GoesOn-same, GoesOn-then}
 use Rattle.hp_view.proofs.Reading.{GoesOn-only}
-use Rattle.hp_fire.specs.declared.course.Course.{Course}
-use Rattle.hp_fire.specs.Runs.{Runs, Steps, Finding, Looks, Makes}
+use Rattle.hp_fire.specs.Runs.{Runs, Adds, Steps, Finding, Looks, Made, Makes}
 use Rattle.hp_fire.specs.Statements.{veto_statement, TasksStart}
 use Rattle.hp_fire.specs.Signals.{signal_of}
-use Rattle.hp_fire.proofs.Making.{steps_halt}
-use Rattle.hp_fire.proofs.Steps.{runs_as, found_cause, found_value, grows, only_written}
+use Rattle.hp_fire.proofs.Making.{makes_halt}
+use Rattle.hp_fire.proofs.Adding.{appends_as}
+use Rattle.hp_fire.proofs.Steps.{runs_as, runs_signal, found_cause, found_value, grows, only_written}
 
 -- ---- the same statement
 
-pub steps_at : (library : Library) (level : Level) (context : Context) (v w : Seeing) (result : Result Course Halt) {x y : Statement} → x ≡ y → Steps library (run_statement x level context) v w result
-    → Steps library (run_statement y level context) v w result
-steps_at library level context v w result is p = subst (λ s. Steps library (run_statement s level context) v w result) is p
-
-pub runs_at : {library : Library} (level : Level) (context : Context) {v w : Seeing} {a : Answer} {x y : Statement} → x ≡ y → Runs library (run_statement x level context) v w a
-    → Runs library (run_statement y level context) v w a
-runs_at {library} level context {v} {w} {a} is p = subst (λ s. Runs library (run_statement s level context) v w a) is p
+pub steps_at : (library : Library) (level : Level) (context : Context) (v w : Seeing) (before after : Answer) (result : Result ⊤ Halt) {x y : Statement} → x ≡ y
+    → Steps library (run_statement x level context) v w before after result → Steps library (run_statement y level context) v w before after result
+steps_at library level context v w before after result is p = subst (λ s. Steps library (run_statement s level context) v w before after result) is p
 
 -- ---- signals
 
-pub signal_halt : (x : Name) (next : List Value → Work) (o : Outcome (List Value)) (h : Halt) (library : Library) (v : Seeing) {X : Type 0} (f : X → Primitive) → Meets f (Err h) (signal_of x o)
-    → Steps library (λ S. with_value o next S) v v (Err h)
-signal_halt x next (Ok vs) (ByCause c) library v f is = cc
-signal_halt x next (Err d) (ByCause c) library v f is = steps_halt (λ (vs : List Value). vs) (λ S. next) (Err d) (ByCause c) library v (cause_same is)
+pub signal_halt : (x : Name) (next : List Value → Work) (o : Outcome (List Value)) (h : Halt) (library : Library) (level : Level) (v : Seeing) {X : Type 0} (f : X → Primitive)
+    → Meets f (Err h) (signal_of x o) → Makes f library level (λ S. with_value o next S) v v (Err h)
+signal_halt x next (Ok vs) (ByCause c) library level v f is = cc
+signal_halt x next (Err d) (ByCause c) library level v f is = makes_halt (λ (vs : List Value). vs) f (λ S. next) (Err d) (ByCause c) library level v (cause_same is)
   where
     cause_same : ◌≡◌ {A = Outcome Primitive} (Err (cause c)) (Err d) → ◌≡◌ {A = Outcome (List Value)} (Err (cause c)) (Err d)
     cause_same e = ap (λ (o : Outcome Primitive). as_values o) e
@@ -64,7 +60,7 @@ signal_halt x next (Err d) (ByCause c) library v f is = steps_halt (λ (vs : Lis
         as_values : Outcome Primitive → Outcome (List Value)
         as_values (Ok p) = Ok []
         as_values (Err e) = Err e
-signal_halt x next o Memory library v f is = tt
+signal_halt x next o Memory library level v f is = tt
 
 -- the occurrence of a signal was made, or a cause ends the statement
 pub signal_makes : {X : Type 0} (f : X → Primitive) (library : Library) (level : Level) (x : Name) (o : Outcome (List Value)) (v : Seeing) (result : Result X Halt) → Meets f result (signal_of x o)
@@ -84,22 +80,26 @@ signal_makes f library level x (Ok vs) v (Ok q) is = record { goes_on = GoesOn-s
         subst (λ r. FaithfulWork library (signal_in level (signalled x vs)) more before after (followed (tells (without_detachments (operation_items r))) a)) (sym same)
         (subst (λ r. FaithfulWork library (signal_in level r) more before after a) same q)
 signal_makes f library level x (Err d) v (Ok q) is = cc
-signal_makes f library level x o v (Err (ByCause c)) is = signal_halt x (λ vs. signal_in level (signalled x vs)) o (ByCause c) library v f is
+signal_makes f library level x o v (Err (ByCause c)) is = signal_halt x (λ vs. signal_in level (signalled x vs)) o (ByCause c) library level v f is
 signal_makes f library level x o v (Err Memory) is = tt
 
 -- ---- what is found
 
-pub found_steps : {A : Type 0} (library : Library) (of : State → Outcome A) (f : A → Work) (x : A) (v w z : Seeing) (result : Result Course Halt)
-    → Finding library of v w (Ok x) → Steps library (f x) w z result
-    → Steps library (λ S. with_value (of S) f S) v z result
-found_steps library of f x v w z (Ok c) found r = found_value f found r
-found_steps library of f x v w z (Err (ByCause c)) found r = found_value f found r
-found_steps library of f x v w z (Err Memory) found r = tt
+pub found_adds : {A : Type 0} {library : Library} {of : State → Outcome A} (f : A → Work) {x : A} {v w z : Seeing} {before after : Answer}
+    → Finding library of v w (Ok x) → Adds library (f x) w z before after → Adds library (λ S. with_value (of S) f S) v z before after
+found_adds f found r = appends_as (λ a runs. found_value f found runs) r
 
-pub found_halt : {A X : Type 0} (f : X → A) (next : A → Work) (of : State → Outcome A) (h : Halt) (library : Library) (v w : Seeing) → Looks f library of v w (Err h)
-    → Steps library (λ S. with_value (of S) next S) v w (Err h)
-found_halt f next of (ByCause c) library v w found = found_cause next found
-found_halt f next of Memory library v w found = tt
+pub found_steps : {A : Type 0} (library : Library) (of : State → Outcome A) (f : A → Work) (x : A) (v w z : Seeing) (before after : Answer) (result : Result ⊤ Halt)
+    → Finding library of v w (Ok x) → Steps library (f x) w z before after result
+    → Steps library (λ S. with_value (of S) f S) v z before after result
+found_steps library of f x v w z before after (Ok u) found r = found_adds f found r
+found_steps library of f x v w z before after (Err (ByCause c)) found r = (r.0, found_value f found r.1)
+found_steps library of f x v w z before after (Err Memory) found r = tt
+
+pub found_halt : {A X : Type 0} (a : Answer) (f : X → A) (next : A → Work) (of : State → Outcome A) (h : Halt) (library : Library) (v w : Seeing) → Looks f library of v w (Err h)
+    → Steps library (λ S. with_value (of S) next S) v w a a (Err h)
+found_halt a f next of (ByCause c) library v w found = (refl, found_cause next found)
+found_halt a f next of Memory library v w found = tt
 
 -- ---- the statement that fires a rule
 
@@ -163,3 +163,23 @@ veto_is s (Some e) is = search (rules, the_lemmas)
 pub with_is : (s : Stmt) (variable : String Global) (class : ℕ) (key : Box Expr) (body : Vec Stmt) → s ≡ With variable class key body
     → R.with_object (string_bytes variable) class (expression key.value) (body_in body.items) ≡ statement s
 with_is s variable class key body is = search (rules, the_lemmas, row_body_lem)
+
+-- ---- what a cause ends before it was made or started
+
+pub made_halt : {X : Type 0} (a : Answer) (f : X → Primitive) (library : Library) (level : Level) (work : Work) (v w : Seeing) (h : Halt) → Makes f library level work v w (Err h)
+    → Steps library work v w a a (Err h)
+made_halt a f library level work v w (ByCause c) made = (refl, made)
+made_halt a f library level work v w Memory made = tt
+
+pub start_halt : (a : Answer) (lib : RustLibrary) (depth : ℕ) (work : Work) (v w : Seeing) (h : Halt) → TasksStart lib depth work v w (Err h) → Steps (library lib) work v w a a (Err h)
+start_halt a lib depth work v w (ByCause c) starts = (refl, starts)
+start_halt a lib depth work v w Memory starts = tt
+
+-- what a statement made, and what its signal did
+pub signal_adds : {library : Library} {level : Level} {work : Work} {v w z : Seeing} {p : Primitive} {before middle after : Answer} → Made library level work v w p
+    → middle ≡ followed before (tells (without_detachments (operation_items p))) → Adds library (signal_in level p) w z middle after → Adds library work v z before after
+signal_adds {p = p} {before} made is r = record {
+  answer = followed (tells (without_detachments (operation_items p))) r.answer;
+  is = runs_signal made r.is;
+  added = r.added ∙ ap (λ a. followed a r.answer) is ∙ followed-assoc before (tells (without_detachments (operation_items p))) r.answer;
+}

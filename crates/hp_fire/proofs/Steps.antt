@@ -14,7 +14,7 @@ use Rattle.hp_model.specs.Cells.{Changes}
 use Rattle.hp_model.specs.Soundness.{Answer, FiringAnswer}
 use Rattle.hp_model.specs.Answers.{FaithfulWork, FaithfulFiring, SiblingsAnswer, ended, tells, followed, is_done, kept, closing, closing_action}
 use Rattle.hp_model.specs.Operations.{operation_items}
-use Rattle.hp_model.proofs.Faithful.{Grows, finds_more, faithful_ends, faithful_as, faithful_value, faithful_cause, Completes, each_more, each_halt, each_end, faithful_sub_done}
+use Rattle.hp_model.proofs.Faithful.{Grows, followed-assoc, finds_more, faithful_ends, faithful_as, faithful_value, faithful_cause, Completes, each_more, each_halt, each_end, faithful_sub_done}
 use Rattle.hp_model.proofs.Faithful.{faithful_sub_veto, faithful_sub_abort}
 use Rattle.hp_model.proofs.FaithfulFirings.{faithful_action, goes_on, GroupCompletes, group_more, group_end, group_vetoed}
 use Rattle.hp_rule.specs.declared.stmt.Stmt.{Stmt}
@@ -22,7 +22,7 @@ use Rattle.hp_rule.specs.Mapped.{statement, body_in}
 use Rattle.hp_store.specs.Changes.{changes}
 use Rattle.hp_view.specs.Seeing.{Seeing, written, undone, GoesOn, GoesBack, OnlyReads}
 use Rattle.hp_view.proofs.Views.{GoesOn-same, GoesOn-then}
-use Rattle.hp_fire.specs.Runs.{Runs, RunsFiring, RunsGroup, Finding, Made, SubOver, SubAborted, SubEnds, SubRuns, Closes}
+use Rattle.hp_fire.specs.Runs.{Runs, RunsFiring, RunsGroup, Appends, Adds, Finding, Made, SubOver, SubAborted, SubGoesOn, SubRuns, Closes}
 
 -- ---- views that continue others
 
@@ -188,7 +188,7 @@ sub_abort {library} {f} {v} {w} {z} {a} x is r closes = record {
 }
 
 -- the body has ended so, and the answer of the statement so far is this
-pub sub_closes : {library : Library} {f : Work} {v w z : Seeing} {a b : Answer} (after : End) (aborted : Bool) → SubEnds a.end after aborted
+pub sub_closes : {library : Library} {f : Work} {v w z : Seeing} {a b : Answer} (after : End) (aborted : Bool) → SubGoesOn a.end after aborted
     → b ≡ closing sub_node a after → Runs library f v w a → Closes v w z a.end
     → SubRuns library f v z b aborted
 sub_closes {library} {f} {v} {w} {z} {a} {b} after aborted ends is r closes = by a.end refl ends
@@ -198,7 +198,7 @@ sub_closes {library} {f} {v} {w} {z} {a} {b} after aborted ends is r closes = by
         subst (λ x. SubRuns library f v z b x) (sym which)
         (subst (λ x. SubRuns library f v z x c) (ap (closing sub_node a) (sym same) ∙ sym is) p)
 
-    by : (e : End) → a.end ≡ e → SubEnds e after aborted → SubRuns library f v z b aborted
+    by : (e : End) → a.end ≡ e → SubGoesOn e after aborted → SubRuns library f v z b aborted
     by done e h = at done false h.0 h.1 (sub_done e r closes)
     by (abort_by x) e h = at done true h.0 h.1 (sub_abort x e r closes)
     by (veto_by n) e h = at (veto_by n) false h.0 h.1 (sub_veto n e r closes)
@@ -245,26 +245,39 @@ group_stop library whole r vetoes l p = record {
       group_vetoed library (fire_task library) whole _ r vetoes (grows p.goes_on) l.completes p.faithful;
 }
 
--- ---- the same at an index of a list
+-- ---- the same at an index of a list, where each adds to a course
 
 module _ {A : Type 0} {library : Library} {work : A → Work} {whole : Work} where
-  pub loop_starts : (xs : List A) (v : Seeing) (so_far : Answer) → so_far ≡ ended done → ((S : State) → whole S ≡ for_each xs work S) → Loop library work whole xs v v so_far
-  loop_starts xs v so_far is same = subst (Loop library work whole xs v v) (sym is) (loop_begin library work whole xs v same)
+  pub loop_starts : (xs : List A) (v : Seeing) {before after : Answer} → after ≡ followed before (ended done) → ((S : State) → whole S ≡ for_each xs work S)
+      → Appends (Loop library work whole xs v v) before after
+  loop_starts xs v is same = record { answer = ended done; is = loop_begin library work whole xs v same; added = is }
 
-  pub loop_next : {left rest : List A} {v w z : Seeing} {so_far got : Answer} (x : A) (after : Answer) → left ≡ x ∷ rest → after ≡ followed so_far got → is_done after.end ≡ true
-      → Loop library work whole left v w so_far → Runs library (work x) w z got → Loop library work whole rest v z after
-  loop_next {left} {rest} {v} {w} {z} {so_far} {got} x after here is goes l r =
-      let ends_done : got.end ≡ done = done_if got.end (sym (ap (λ (a : Answer). is_done a.end) is) ∙ goes) in
-      subst (Loop library work whole rest v z) (sym is) (loop_more library work whole ends_done (subst (λ xs. Loop library work whole xs v w so_far) here l) r)
+  pub loop_next : {left rest : List A} {v w z : Seeing} {before middle after : Answer} (x : A) → left ≡ x ∷ rest → is_done after.end ≡ true
+      → Appends (Loop library work whole left v w) before middle → Adds library (work x) w z middle after → Appends (Loop library work whole rest v z) before after
+  loop_next {left} {rest} {v} {w} {z} {before} x here goes l r =
+      let ends_done : r.answer.end ≡ done = done_if r.answer.end (sym (ap (λ (a : Answer). is_done a.end) r.added) ∙ goes) in
+      record {
+        answer = followed l.answer r.answer;
+        is = loop_more library work whole ends_done (subst (λ xs. Loop library work whole xs v w l.answer) here l.is) r.is;
+        added = r.added ∙ ap (λ a. followed a r.answer) l.added ∙ followed-assoc before l.answer r.answer;
+      }
 
-  pub loop_stops : {left rest : List A} {v w z : Seeing} {so_far got : Answer} (x : A) (after : Answer) → left ≡ x ∷ rest → after ≡ followed so_far got → is_done after.end ≡ false
-      → Loop library work whole left v w so_far → Runs library (work x) w z got → Runs library whole v z after
-  loop_stops {left} {rest} {v} {w} {z} {so_far} {got} x after here is stops l r =
-      let halts : is_done got.end ≡ false = sym (ap (λ (a : Answer). is_done a.end) is) ∙ stops in
-      runs_answer is (loop_halt library work whole halts (subst (λ xs. Loop library work whole xs v w so_far) here l) r)
+  pub loop_stops : {left rest : List A} {v w z : Seeing} {before middle after : Answer} (x : A) → left ≡ x ∷ rest → is_done after.end ≡ false
+      → Appends (Loop library work whole left v w) before middle → Adds library (work x) w z middle after → Adds library whole v z before after
+  loop_stops {left} {rest} {v} {w} {z} {before} x here stops l r =
+      let halts : is_done r.answer.end ≡ false = sym (ap (λ (a : Answer). is_done a.end) r.added) ∙ stops in
+      record {
+        answer = followed l.answer r.answer;
+        is = loop_halt library work whole halts (subst (λ xs. Loop library work whole xs v w l.answer) here l.is) r.is;
+        added = r.added ∙ ap (λ a. followed a r.answer) l.added ∙ followed-assoc before l.answer r.answer;
+      }
 
-  pub loop_ends : {left : List A} {v w : Seeing} {so_far : Answer} → left ≡ [] → Loop library work whole left v w so_far → Runs library whole v w so_far
-  loop_ends {left} {v} {w} {so_far} none l = loop_end library work whole (subst (λ xs. Loop library work whole xs v w so_far) none l)
+  pub loop_ends : {left : List A} {v w : Seeing} {before after : Answer} → left ≡ [] → Appends (Loop library work whole left v w) before after → Adds library whole v w before after
+  loop_ends {left} {v} {w} none l = record {
+    answer = l.answer;
+    is = loop_end library work whole (subst (λ xs. Loop library work whole xs v w l.answer) none l.is);
+    added = l.added;
+  }
 
 -- a list of one
 pub only_runs : {A : Type 0} {library : Library} (work : A → Work) (whole : Work) (x : A) {v w : Seeing} {a : Answer} → ((S : State) → whole S ≡ for_each (x ∷ []) work S)
@@ -276,9 +289,9 @@ only_runs {library = library} work whole x {v} {w} {a} same r = by (is_done a.en
     by false e = loop_halt library work whole e (loop_begin library work whole (x ∷ []) v same) r
 
 -- a body of one statement
-pub lone_runs : {library : Library} (level : Level) (context : Context) (ss : List Stmt) (s : Stmt) {v w : Seeing} {a : Answer} → ss ≡ s ∷ []
+pub lone_runs : {library : Library} (level : Level) (context : Context) (ss : List Stmt) (s : Stmt) {v w : Seeing} (a : Answer) → ss ≡ s ∷ []
     → Runs library (run_statement (statement s) level context) v w a → Runs library (run_body (body_in ss) level context) v w a
-lone_runs level context ss s is r =
+lone_runs level context ss s a is r =
     only_runs (λ x. run_statement (statement x) level context) (run_body (body_in ss) level context) s
     (λ S. body_each level context ss S ∙ ap (λ xs. for_each xs (λ x. run_statement (statement x) level context) S) is) r
 

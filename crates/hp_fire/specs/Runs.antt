@@ -18,10 +18,8 @@ use Rattle.hp_value.specs.declared.halt.Halt.{Halt}
 use Rattle.hp_value.specs.declared.halt.Halt.TheVariants.{Cause as ByCause, Memory}
 use Rattle.hp_value.specs.Mapped.{cause}
 use Rattle.hp_view.specs.Seeing.{Seeing, written, GoesOn, OnlyReads}
-use Rattle.hp_attempt.specs.declared.outcome.Outcome.{Outcome as FiredOutcome}
-use Rattle.hp_attempt.specs.Mapped.{firing}
-use Rattle.hp_fire.specs.declared.course.Course.{Course}
-use Rattle.hp_fire.specs.Mapped.{course}
+use Rattle.hp_fire.specs.declared.course.Around.{Around}
+use Rattle.hp_fire.specs.Joined.{IsPart, alone}
 
 -- the call is faithful to the work, and the new view continues the old one
 pub record Runs (library : Library) (work : Work) (old new : Seeing) (answer : Answer) : Type 0 where
@@ -38,11 +36,29 @@ pub record RunsGroup (library : Library) (group : State → Siblings) (old new :
   pub goes_on : GoesOn old new
   pub faithful : FaithfulSiblings library group new.reads (written old) (written new) answer
 
--- the course is the work's, or the cause for which it ends before any effect, unless memory ran out
-abbrev pub Steps : Library → Work → Seeing → Seeing → Result Course Halt → Type 0
-Steps library work old new (Ok c) = Runs library work old new (course c)
-Steps library work old new (Err (ByCause x)) = Runs library work old new (ended (abort_by (cause x)))
-Steps library work old new (Err Memory) = ⊤
+-- ---- what calls add to a course
+
+-- an answer that is so was added to the one before
+pub record Appends (is_so : Answer → Type 0) (before after : Answer) : Type 0 where
+  pub answer : Answer
+  pub is : is_so answer
+  pub added : after ≡ followed before answer
+
+-- the work ran, and its answer was added
+abbrev pub Adds : Library → Work → (old new : Seeing) → (before after : Answer) → Type 0
+Adds library work old new before after = Appends (λ a. Runs library work old new a) before after
+
+-- the same for a firing without siblings
+pub record AddsFiring (library : Library) (fire : State → Firing) (old new : Seeing) (before after : Answer) : Type 0 where
+  pub answer : FiringAnswer
+  pub runs : RunsFiring library fire old new answer
+  pub added : after ≡ followed before (alone answer)
+
+-- The work's answer was added; or a cause ended the work before any effect, and nothing was added; or memory ran out.
+abbrev pub Steps : Library → Work → (old new : Seeing) → (before after : Answer) → Result ⊤ Halt → Type 0
+Steps library work old new before after (Ok u) = Adds library work old new before after
+Steps library work old new before after (Err (ByCause x)) = (after ≡ before) × Runs library work old new (ended (abort_by (cause x)))
+Steps library work old new before after (Err Memory) = ⊤
 
 -- ---- parts of statements
 
@@ -74,17 +90,18 @@ Makes f library level work old new (Err Memory) = ⊤
 pub record Starts (library : Library) (rest work : Work) (old new : Seeing) : Type 0 where
   pub then_runs : {last : Seeing} {a : Answer} → Runs library rest new last a → Runs library work old last a
 
--- the action of a task, which began at a mark and took this course up to the first view, has ended
-abbrev pub ActionEnds : Library → Task → (mark : ℕ) → Node → Seeing → Seeing → Answer → FiredOutcome → Type 0
-ActionEnds library t mark node now new a o =
-    (found : Findings) (first : Seeing) → Runs library (action_course (level_at library t.now t.depth) t found) first now a → length first.undo ≡ mark
-    → RunsFiring library (run_action node (level_at library t.now t.depth) t found) first new (firing o)
+-- the action of a task, which began at a mark, has ended, and its firing was added to the answer around it
+abbrev pub ActionEnds : Library → Task → (mark : ℕ) → Node → Seeing → Seeing → Around → (before after : Answer) → Type 0
+ActionEnds library t mark node now new around before after =
+    (found : Findings) (first : Seeing) (outer a : Answer) → IsPart around outer a before → Runs library (action_course (level_at library t.now t.depth) t found) first now a
+    → length first.undo ≡ mark
+    → AddsFiring library (run_action node (level_at library t.now t.depth) t found) first new outer after
 
 -- the end of a statement `sub` whose body ended so, and whether its other body follows
-abbrev pub SubEnds : (body : End) → (statement : End) → (aborted : Bool) → Type 0
-SubEnds done e b = (e ≡ done) × (b ≡ false)
-SubEnds (abort_by x) e b = (e ≡ done) × (b ≡ true)
-SubEnds (veto_by v) e b = (e ≡ veto_by v) × (b ≡ false)
+abbrev pub SubGoesOn : (body : End) → (statement : End) → (aborted : Bool) → Type 0
+SubGoesOn done e b = (e ≡ done) × (b ≡ false)
+SubGoesOn (abort_by x) e b = (e ≡ done) × (b ≡ true)
+SubGoesOn (veto_by v) e b = (e ≡ veto_by v) × (b ≡ false)
 
 -- the body of a statement `sub` has ended with this course, and nothing follows it
 pub record SubOver (library : Library) (f : Work) (old new : Seeing) (a : Answer) : Type 0 where
@@ -100,6 +117,12 @@ pub record SubAborted (library : Library) (f : Work) (old new : Seeing) (a : Ans
 abbrev pub SubRuns : Library → Work → Seeing → Seeing → Answer → (aborted : Bool) → Type 0
 SubRuns library f old new a false = SubOver library f old new a
 SubRuns library f old new a true = SubAborted library f old new a
+
+-- the body of a statement `sub`, which began at a mark, has ended, and was added to the answer around it
+abbrev pub SubEnds : (mark : ℕ) → Seeing → Seeing → Around → (before after : Answer) → (aborted : Bool) → Type 0
+SubEnds mark now new around before after aborted =
+    (library : Library) (f : Work) (first : Seeing) (outer a : Answer) → IsPart around outer a before → Runs library f first now a → length first.undo ≡ mark
+    → Appends (λ b. SubRuns library f first new b aborted) outer after
 
 -- a nested transaction, which began at the first view and came to the second, has ended so
 pub record Closes (first now new : Seeing) (e : End) : Type 0 where

@@ -22,7 +22,7 @@ use Rattle.hp_fire.specs.declared.course.Course.{Course}
 use Rattle.hp_fire.specs.declared.course.GroupOutcome.{GroupOutcome}
 use Rattle.hp_fire.specs.declared.context.Context.{Context}
 use Rattle.hp_fire.specs.Mapped.{course, context, group}
-use Rattle.hp_fire.specs.Runs.{Runs, RunsFiring, RunsGroup, Steps, Starts, Makes}
+use Rattle.hp_fire.specs.Runs.{Runs, RunsFiring, RunsGroup, Adds, Steps, Starts, Makes}
 
 -- the level of a statement in a context
 abbrev pub level_in : Library → Context → Level
@@ -45,17 +45,17 @@ abbrev pub veto_statement : Option (Box Expr) → Statement
 veto_statement None = veto
 veto_statement (Some e) = veto_with (expression e.value)
 
--- the statement runs, unless a cause ends it or memory runs out
-abbrev pub StatementRuns : Library → Context → Statement → Seeing → Seeing → Result Course Halt → Type 0
-StatementRuns lib c s old new result = Steps (library lib) (statement_in lib c s) old new result
+-- the statement runs, and what it did is added to the course, unless a cause ends it or memory runs out
+abbrev pub StatementRuns : Library → Context → Statement → Seeing → Seeing → (before after : Course) → Result ⊤ Halt → Type 0
+StatementRuns lib c s old new before after result = Steps (library lib) (statement_in lib c s) old new (course before) (course after) result
 
 -- the operation of the statement is made, unless a cause ends the statement or memory runs out
 abbrev pub OperationIsMade : Library → Context → Statement → Seeing → Seeing → Result Primitive Halt → Type 0
 OperationIsMade lib c s old new result = Makes primitive (library lib) (level_in lib c) (statement_in lib c s) old new result
 
--- the body runs with this course
-abbrev pub BodyRuns : Library → Context → Body → Seeing → Seeing → Course → Type 0
-BodyRuns lib c b old new result = Runs (library lib) (body_work lib c b) old new (course result)
+-- the body runs, and what it did is added to the course
+abbrev pub BodyRuns : Library → Context → Body → Seeing → Seeing → (before after : Course) → Type 0
+BodyRuns lib c b old new before after = Adds (library lib) (body_work lib c b) old new (course before) (course after)
 
 -- how tasks fire one level below a transaction of this depth, unless that exceeds the limit: each at its own moment
 abbrev pub below_at : Library → (depth : ℕ) → Option Fire

@@ -17,7 +17,7 @@ ghost use Rattle.hp_fire.specs.Runs.{Runs, RunsFiring, RunsGroup};
 
 use crate::attempting::attempt_on;
 use crate::context::Context;
-use crate::course::{Course, GroupOutcome};
+use crate::course::{Course, End, GroupOutcome};
 use crate::engine::Engine;
 use crate::halting::or_aborted;
 use crate::speculate::{
@@ -51,7 +51,9 @@ impl<W: Workers> Engine<'_, W> {
             (model.run_body (body_in body.now) level (no_context time)) view.old view.new (course c)) }
     {
         let context = Context::of_script(depth, time);
-        self.statements(view, body, &context)
+        let mut course = Course::ended(self.alloc, End::Done);
+        self.statements(view, body, &context, &mut course)?;
+        Ok(course)
     }
 
     /// Signals an occurrence in a transaction of depth `depth`, at the moment `time` of the clock: the rules that it
@@ -71,8 +73,10 @@ impl<W: Workers> Engine<'_, W> {
             (signal_in level (primitive prim.now)) view.old view.new (course c)) }
     {
         let tasks = trigger(self.alloc, view, self.lib, prim, depth, time);
-        let result = self.start(view, tasks, depth);
-        or_aborted(self.alloc, result)
+        let mut course = Course::ended(self.alloc, End::Done);
+        let started = self.start(view, tasks, depth, &mut course);
+        or_aborted(&mut course, started)?;
+        Ok(course)
     }
 
     /// Fires a task on the view, as a subtransaction.

@@ -1,27 +1,29 @@
 //! The ends of nested transactions.
 
-ghost use Rattle.std.specs.Prelude.{◌≡◌, ◌≤◌, IfOk, IsOk, OnOk, OnErr, map, length, option_map};
-ghost use Rattle.hp_model.specs.Rules.{Library as ModelLibrary};
+ghost use Rattle.std.specs.Prelude.{◌≡◌, ◌≤◌, IfOk, IsOk, OnOk, OnErr, map, length, option_map, false};
 ghost use Rattle.hp_model.specs.Transactions as model;
-ghost use Rattle.hp_model.specs.Transactions.{Work};
-ghost use Rattle.hp_model.specs.Answers.{queued_at, detached_at, closing};
+ghost use Rattle.hp_model.specs.Soundness.{Answer};
+ghost use Rattle.hp_model.specs.Answers.{detached_at, closing, followed, is_done};
 ghost use Rattle.hp_rule.specs.Mapped.{library, task as task_of, detached as detached_of};
-ghost use Rattle.hp_tree.specs.Mapped.{what as what_of, ending as ending_of};
+ghost use Rattle.hp_model.specs.Tree.{node, no_items};
+ghost use Rattle.hp_tree.specs.Mapped.{what as what_of, ending as ending_of, before, items_in};
 ghost use Rattle.hp_model.specs.Answers as answers;
 ghost use Rattle.hp_view.specs.Seeing.{Seeing, GoesOn};
 ghost use Rattle.hp_fire.specs.Mapped as mapped;
 ghost use Rattle.hp_fire.specs.Mapped.{course as course_in};
-ghost use Rattle.hp_fire.specs.Runs.{Runs, Closes, ActionEnds, SubEnds, SubRuns};
+ghost use Rattle.hp_fire.specs.Joined.{IsPart, leaving};
+ghost use Rattle.hp_fire.specs.Runs.{Closes, ActionEnds, SubEnds, SubGoesOn};
 
-use crate::course::{Course, End};
+use crate::course::{Around, Course, End, append};
 use crate::engine::Engine;
+use crate::placing::stopped_by;
 use crate::vetoes::action_veto;
-use hp_attempt::Outcome;
 use hp_rule::{Detached, Task};
 use hp_tree::{Ending, Item, Node, What};
 use hp_value::Coupling;
 use hp_view::{Mark, View};
 use std::alloc::{AllocError, Global};
+use std::mem::replace;
 
 /// Ends the transaction that began at a mark: if it is done, its writes stay; otherwise they are undone (Moss).
 ///
@@ -50,16 +52,6 @@ pub fn ending(how: End) -> Ending
         End::Done => Ending::Committed,
         End::Abort(cause) => Ending::Aborted(cause),
         End::Vetoed(veto) | End::Veto(veto) => Ending::Vetoed(veto),
-    }
-}
-
-/// The tasks that a transaction leaves queued: none if it aborts.
-fn queued_after(alloc: Global, how: &End, queued: Vec<Task>) -> Vec<Task>
-    ensures { map task_of result.items ≡ queued_at (mapped.end how.now) (map task_of queued.items) }
-{
-    match how {
-        End::Done => queued,
-        End::Abort(_) | End::Vetoed(_) | End::Veto(_) => Vec::new(alloc),
     }
 }
 
@@ -106,88 +98,105 @@ fn after_abort(d: Detached) -> Option<Detached>
     }
 }
 
-/// A nested transaction as a part of the course around it, which then ends as `after` says: its node, and the tasks
-/// that it leaves queued and detached.
-fn as_part(alloc: Global, what: What, course: Course, after: End) -> Result<Course, AllocError>
-    ensures { IfOk result (λ c. course_in c ≡ closing (what_of what) (course_in course) (mapped.end after)) }
+/// Ends a nested transaction that began in a course, which then ends as `after` says: adds its node, and keeps the tasks
+/// that it leaves queued and detached. After an error the course is only to be dropped.
+pub(crate) fn end_part(
+    alloc: Global,
+    course: &mut Course,
+    what: What,
+    around: Around,
+    after: End,
+) -> Result<(), AllocError>
+    ensures { OnOk result ((outer a : Answer) → IsPart around outer a (course_in course.old)
+        → course_in course.new ≡ followed outer (closing (what_of what) a (mapped.end after))) }
 {
-    let Course {
-        end,
-        queued,
-        detached,
-        items,
-    } = course;
-    let queued = queued_after(alloc, &end, queued);
-    let detached = detached_after(alloc, &end, detached)?;
-    // With space for the operation that set it off, which is put before it.
-    let mut around = Vec::with_capacity(alloc, 2)?;
-    around.push_reserved(Item::Node(Node {
+    leave_tasks(alloc, course, &around)?;
+    let items = replace(&mut course.items, around.items);
+    let how = replace(&mut course.end, after);
+    course.put(node_of(what, how, items))
+}
+
+/// The node of a nested transaction, which ended so, with its items.
+pub(crate) fn node_of(what: What, how: End, items: Vec<Item>) -> Item
+    ensures { before result no_items
+        ≡ node (what_of what) (answers.ending_of (mapped.end how)) (items_in items.items) no_items }
+{
+    Item::Node(Node {
         what,
-        end: ending(end),
+        end: ending(how),
         items,
-    }));
-    Ok(Course {
-        end: after,
-        queued,
-        detached,
-        items: around,
     })
 }
 
+/// Drops the tasks that a nested transaction doesn't leave queued or detached. After an error the course is only to be
+/// dropped.
+fn leave_tasks(alloc: Global, course: &mut Course, around: &Around) -> Result<(), AllocError>
+    ensures { OnOk result ((outer a : Answer) → IsPart around.now outer a (course_in course.old)
+        → course_in course.new ≡ leaving outer a) }
+{
+    if course.is_done() {
+        return Ok(());
+    }
+    leave_after_abort(alloc, course, around)
+}
+
+/// Drops the tasks that a nested transaction that aborted doesn't leave queued or detached.
+#[inline(never)]
+fn leave_after_abort(alloc: Global, course: &mut Course, around: &Around) -> Result<(), AllocError>
+    requires { is_done (course_in course.old).end ≡ false }
+    ensures { OnOk result ((outer a : Answer) → IsPart around.now outer a (course_in course.old)
+        → course_in course.new ≡ leaving outer a) }
+{
+    course.queued.truncate(around.queued);
+    let begun = around.detached.min(course.detached.len());
+    let inside = course.detached.split_off(begun)?;
+    append(&mut course.detached, left_after_abort(alloc, inside)?)
+}
+
 impl<W> Engine<'_, W> {
-    /// Ends the action of a task, which began at a mark and took this course.
+    /// Ends the action of a task, which began at a mark of the view and in this course, and adds the firing to the
+    /// course. Its veto aborts the transaction around it.
     pub(crate) fn close_action(
         &self,
         view: &mut View,
         mark: Mark,
         task: &Task,
         what: What,
-        course: Course,
-    ) -> Result<Outcome, AllocError>
+        around: Around,
+        course: &mut Course,
+    ) -> Result<(), AllocError>
         requires { mark ≤ length view.old.undo }
         ensures { let t = task_of task.now in
-            IfOk result (ActionEnds (library self.now.lib.now) t mark (what_of what) view.old view.new
-            (course_in course)) }
+            OnOk result (ActionEnds (library self.now.lib.now) t mark (what_of what) view.old view.new around
+            (course_in course.old) (course_in course.new)) }
     {
         end_transaction(view, mark, &course.end)?;
-        let end = action_veto(self.alloc, self.lib, task.rule, &course.end)?;
-        let Course {
-            end: _,
-            queued,
-            detached,
-            items,
-        } = as_part(self.alloc, what, course, End::Done)?;
-        Ok(Outcome {
-            end,
-            queued,
-            detached,
-            tree: items,
-        })
+        let veto = action_veto(self.alloc, self.lib, task.rule, &course.end)?;
+        end_part(self.alloc, course, what, around, stopped_by(veto))
     }
 }
 
-/// Ends the body of a statement `sub`, which began at a mark and took this course. The answer also says whether it
-/// aborted, so that the other body follows. A veto passes outward.
+/// Ends the body of a statement `sub`, which began at a mark of the view and in this course. Says whether it aborted, so
+/// that the other body follows. A veto passes outward.
 pub(crate) fn close_sub(
     alloc: Global,
     view: &mut View,
     mark: Mark,
-    course: Course,
-) -> Result<(Course, bool), AllocError>
+    around: Around,
+    course: &mut Course,
+) -> Result<bool, AllocError>
     requires { mark ≤ length view.old.undo }
-    ensures { IfOk result (λ r. (library : ModelLibrary) (f : Work) (first : Seeing)
-        → Runs library f first view.old (course_in course)
-        → length first.undo ≡ mark → SubRuns library f first view.new (course_in r.0) r.1) }
+    ensures { IfOk result (SubEnds mark view.old view.new around (course_in course.old) (course_in course.new)) }
 {
     end_transaction(view, mark, &course.end)?;
     let (after, aborted) = after_sub(&course.end)?;
-    let part = as_part(alloc, What::Sub, course, after)?;
-    Ok((part, aborted))
+    end_part(alloc, course, What::Sub, around, after)?;
+    Ok(aborted)
 }
 
 /// The end of a statement `sub` whose body ended so, and whether the body aborted, so that the other body follows.
 fn after_sub(how: &End) -> Result<(End, bool), AllocError>
-    ensures { IfOk result (λ r. SubEnds (mapped.end how.now) (mapped.end r.0) r.1) }
+    ensures { IfOk result (λ r. SubGoesOn (mapped.end how.now) (mapped.end r.0) r.1) }
 {
     match how {
         End::Done => Ok((End::Done, false)),

@@ -1,17 +1,23 @@
 //! The results of statements, signals and groups.
 
-ghost use Rattle.std.specs.Prelude.{◌≡◌, ◌++◌, IsTrue, IfOk, OnOk, [], length, option_to_list};
+ghost use Rattle.std.specs.Prelude.{◌≡◌, ◌++◌, IsTrue, OnOk, Option, [], length, option_map};
+ghost use Rattle.hp_model.specs.Values.{Veto as ModelVeto};
 ghost use Rattle.hp_model.specs.Answers.{ended, followed, is_done, tells};
+ghost use Rattle.hp_model.specs.Firing.{end_of};
+ghost use Rattle.hp_model.specs.Soundness.{FiringAnswer};
 ghost use Rattle.hp_model.specs.Tree.{no_items};
-ghost use Rattle.hp_tree.specs.Mapped.{before, items_in};
+ghost use Rattle.hp_value.specs.Mapped.{veto as veto_in};
+ghost use Rattle.hp_tree.specs.Mapped.{before};
+ghost use Rattle.hp_attempt.specs.Mapped.{firing};
 ghost use Rattle.hp_fire.specs.Mapped.{course, end};
-ghost use Rattle.hp_fire.specs.Mapped as mapped;
+ghost use Rattle.hp_fire.specs.Joined.{IsAround, alone, opened, with_items};
 
 use hp_attempt::Outcome;
 use hp_rule::{Detached, Task};
 use hp_tree::Item;
 use hp_value::{Cause, Veto};
 use std::alloc::{AllocError, Global};
+use std::mem::replace;
 
 /// How a statement or a body ends. A body ends with its first statement that isn't done.
 #[derive(Debug, Drop, PartialEq, Eq)]
@@ -37,6 +43,17 @@ pub struct Course {
     pub detached: Vec<Detached>,
     /// What was done, in order of time, up to its end.
     pub items: Vec<Item>,
+}
+
+/// A course when a nested transaction began in it.
+#[derive(Drop)]
+pub(crate) struct Around {
+    /// Its items, which aren't in it until the nested transaction ends.
+    pub(crate) items: Vec<Item>,
+    /// How many tasks it had queued.
+    pub(crate) queued: usize,
+    /// How many tasks it had detached.
+    pub(crate) detached: usize,
 }
 
 /// The result of a group of sibling firings, besides its writes.
@@ -84,21 +101,6 @@ impl Course {
         }
     }
 
-    /// A course of one item.
-    pub(crate) fn of_item(alloc: Global, item: Item) -> Result<Course, AllocError>
-        ensures { IfOk result (λ c. course c
-            ≡ record { end = end End.Done; queued = []; detached = []; items = before item no_items }) }
-    {
-        let mut items = Vec::with_capacity(alloc, 1)?;
-        items.push_reserved(item);
-        Ok(Course {
-            end: End::Done,
-            queued: Vec::new(alloc),
-            detached: Vec::new(alloc),
-            items,
-        })
-    }
-
     /// Whether the next statement is to run.
     pub(crate) fn is_done(&self) -> bool
         ensures { result ≡ is_done (course self.now).end }
@@ -117,18 +119,59 @@ impl Course {
         self.queued.is_empty() && self.detached.is_empty() && self.items.is_empty()
     }
 
-    /// Puts an item, if there is one, before the others. After an error the course is as before.
-    pub(crate) fn begin_with(&mut self, item: Option<Item>) -> Result<(), AllocError>
-        ensures { OnOk result (course self.new
-            ≡ followed (tells (items_in (option_to_list item))) (course self.old)) }
+    /// Begins a nested transaction: what is added from now on is what it does, until `end_part`.
+    pub(crate) fn begin_part(&mut self, alloc: Global) -> Around
+        ensures around { IsAround result (course self.old) }
+        ensures opened { course self.new ≡ opened (course self.old) }
     {
-        let Some(item) = item else {
-            return Ok(());
-        };
-        // Exactly, since a report keeps the list.
-        self.items.reserve_exact(1)?;
-        self.items.insert(0, item)?;
+        Around {
+            items: replace(&mut self.items, Vec::new(alloc)),
+            queued: self.queued.len(),
+            detached: self.detached.len(),
+        }
+    }
+
+    /// Ends the course so.
+    pub(crate) fn end_with(&mut self, how: End)
+        ensures { course self.new ≡ followed (course self.old) (ended (end how)) }
+    {
+        self.end = how;
+    }
+
+    /// Adds an item, after which the course is done so far. After an error no item was added.
+    pub(crate) fn add(&mut self, item: Item) -> Result<(), AllocError>
+        ensures { OnOk result (course self.new ≡ followed (course self.old) (tells (before item no_items))) }
+    {
+        self.put(item)?;
+        self.end = End::Done;
         Ok(())
+    }
+
+    /// Adds an item, which doesn't change how the course ends. After an error no item was added.
+    pub(crate) fn put(&mut self, item: Item) -> Result<(), AllocError>
+        ensures { OnOk result (course self.new ≡ with_items (course self.old) (before item no_items)) }
+    {
+        make_room(&mut self.items)?;
+        self.items.push(item)?;
+        Ok(())
+    }
+
+    /// The outcome of the one firing that is the course.
+    pub(crate) fn into_outcome(self) -> Outcome
+        ensures { (f : FiringAnswer) → course self ≡ alone f → firing result ≡ f }
+    {
+        let Course {
+            end,
+            queued,
+            detached,
+            items,
+        } = self;
+        Outcome {
+            end: veto_inside(end),
+            queued,
+            detached,
+            tree: items,
+        }
     }
 
     /// Appends the course that followed this one. After an error a part may have been added.
@@ -150,6 +193,27 @@ impl Course {
         append(&mut self.items, items)?;
         self.end = end;
         Ok(())
+    }
+}
+
+/// Gives an empty list just the room that most need, since a report keeps it: an operation and the firing that it sets
+/// off.
+fn make_room(items: &mut Vec<Item>) -> Result<(), AllocError>
+    ensures items { items.new.items ≡ items.old.items }
+{
+    if items.is_empty() {
+        return items.reserve_exact(2);
+    }
+    Ok(())
+}
+
+/// The veto of a firing inside that ends a course; `None` if none does.
+fn veto_inside(how: End) -> Option<Veto>
+    ensures { (o : Option ModelVeto) → end how ≡ end_of o → option_map veto_in result ≡ o }
+{
+    match how {
+        End::Vetoed(veto) => Some(veto),
+        _ => None,
     }
 }
 

@@ -1,39 +1,55 @@
 //! The part of a firing before its action runs.
 
-ghost use Rattle.std.specs.Prelude.{◌≡◌, ◌≤◌, IfOk, map, option_map, [], ◌∷◌};
+ghost use Rattle.std.specs.Prelude.{◌≡◌, ◌≤◌, IfOk, OnOk, map, option_map, [], ◌∷◌};
 ghost use Rattle.hp_model.specs.Rules.{rule_at};
 ghost use Rattle.hp_model.specs.Conditions.{satisfied};
 ghost use Rattle.hp_model.specs.Tree.{condition_step, fire_node, with_later_action};
 ghost use Rattle.hp_model.specs.Firing.{action_task};
-ghost use Rattle.hp_model.specs.Answers.{standing, handing_on};
+ghost use Rattle.hp_model.specs.Answers as answers;
+ghost use Rattle.hp_model.specs.Answers.{followed};
 ghost use Rattle.hp_value.specs.Mapped.{coupling, veto as veto_in};
 ghost use Rattle.hp_query.specs.Mapped.{entry, findings as findings_in, verdict as verdict_of};
 ghost use Rattle.hp_rule.specs.declared.stmt.Stmt.{size-Stmt};
 ghost use Rattle.hp_rule.specs.Mapped.{body_in, library, task as task_of};
 ghost use Rattle.hp_tree.specs.Mapped.{what as what_of, condition as condition_end};
-ghost use Rattle.hp_attempt.specs.Mapped.{firing};
-ghost use Rattle.hp_fire.specs.Decides.{Decides, FindsVerdict, Follows, found_in};
+ghost use Rattle.hp_fire.specs.Mapped.{course as course_in};
+ghost use Rattle.hp_fire.specs.Joined.{alone};
+ghost use Rattle.hp_fire.specs.Decides.{Decides, FindsVerdict, Follows, found_in, standing_in};
 ghost use Rattle.hp_fire.specs.Weights.{deepest};
 ghost use denote.Param.Weighed.{most};
 
+use crate::closing::node_of;
 use crate::counting::Counting;
+use crate::course::{Course, End, append};
 use crate::engine::Engine;
-use crate::placing::{one_task, place_tasks};
+use crate::placing::{one_task, place_tasks, stopped_by};
 use crate::vetoes::fault_veto;
-use hp_attempt::Outcome;
 use hp_query::{Entry, Findings, Verdict, evaluate_condition};
-use hp_rule::{Library, Step, Stmt, Task};
-use hp_tree::{ConditionEnd, Ending, Item, Node, What};
+use hp_rule::{Detached, Library, Step, Stmt, Task};
+use hp_tree::{ConditionEnd, What};
 use hp_value::{Coupling, RuleNo, Veto};
 use hp_view::View;
 use std::alloc::{AllocError, Global};
 use std::sync::Arc;
 
+/// A firing that is over and has changed nothing.
+#[derive(Drop)]
+pub(crate) struct Standing {
+    /// Its node, which has no items.
+    pub(crate) what: What,
+    /// Its veto, if it vetoes.
+    pub(crate) veto: Option<Veto>,
+    /// The task of its action, if that is queued for the deferred rounds.
+    pub(crate) queued: Vec<Task>,
+    /// The task of its action, if that is detached.
+    pub(crate) detached: Vec<Detached>,
+}
+
 /// What remains of a task's firing.
 #[derive(Drop)]
 pub(crate) enum Decision {
     /// Nothing: the firing is over.
-    Over(Outcome),
+    Over(Standing),
     /// The action runs, as this node, with what the condition found.
     Acts(What, Found),
 }
@@ -113,14 +129,12 @@ impl<W> Engine<'_, W> {
             Verdict::Satisfied(found) => self.follow_satisfied(task, found),
             Verdict::Unsatisfied => {
                 let what = node_for(task, ConditionEnd::WithoutAction);
-                let outcome = without_effects(self.alloc, what, None)?;
-                Ok(Decision::Over(outcome))
+                Ok(Decision::Over(without_effects(self.alloc, what, None)))
             }
             Verdict::Faulty(cause) => {
                 let what = node_for(task, ConditionEnd::WithFault(cause));
                 let veto = fault_veto(self.alloc, self.lib, task.rule)?;
-                let outcome = without_effects(self.alloc, what, veto)?;
-                Ok(Decision::Over(outcome))
+                Ok(Decision::Over(without_effects(self.alloc, what, veto)))
             }
         }
     }
@@ -136,8 +150,8 @@ impl<W> Engine<'_, W> {
                 Ok(Decision::Acts(what, Found::Own(found)))
             }
             place => {
-                let outcome = later(self.alloc, task, place, found)?;
-                Ok(Decision::Over(outcome))
+                let over = later(self.alloc, task, place, found)?;
+                Ok(Decision::Over(over))
             }
         }
     }
@@ -154,25 +168,16 @@ fn node_for(task: &Task, condition: ConditionEnd) -> What
     }
 }
 
-/// A firing without effects, which has only its node and perhaps a veto.
-#[inline(never)]
-fn without_effects(alloc: Global, what: What, veto: Option<Veto>) -> Result<Outcome, AllocError>
-    ensures { let veto = option_map veto_in veto in
-        IfOk result (λ o. firing o ≡ standing (what_of what) veto) }
+/// A firing that only has its node, and perhaps a veto.
+fn without_effects(alloc: Global, what: What, veto: Option<Veto>) -> Standing
+    ensures { standing_in result ≡ answers.standing (what_of what) (option_map veto_in veto) }
 {
-    // With space for the operation that set it off, which is put before it.
-    let mut tree = Vec::with_capacity(alloc, 2)?;
-    tree.push_reserved(Item::Node(Node {
+    Standing {
         what,
-        end: Ending::Committed,
-        items: Vec::new(alloc),
-    }));
-    Ok(Outcome {
-        end: veto,
+        veto,
         queued: Vec::new(alloc),
         detached: Vec::new(alloc),
-        tree,
-    })
+    }
 }
 
 /// The firing of a satisfied condition whose action is queued or detached.
@@ -182,10 +187,10 @@ fn later(
     task: &Task,
     place: Coupling,
     found: Findings,
-) -> Result<Outcome, AllocError>
+) -> Result<Standing, AllocError>
     ensures { let node = fire_node task.now.rule (coupling task.now.place) with_later_action in
         let action = action_task (coupling place) (task_of task.now) (findings_in found) in
-        IfOk result (λ o. firing o ≡ handing_on node (action ∷ [])) }
+        IfOk result (λ s. standing_in s ≡ answers.handing_on node (action ∷ [])) }
 {
     let findings = Arc::new(alloc, found)?;
     let occurrence = Arc::try_clone(&task.occurrence)?;
@@ -198,10 +203,34 @@ fn later(
         occurrence,
     };
     let placed = place_tasks(alloc, one_task(alloc, action)?)?;
-    let mut outcome = without_effects(alloc, node_for(task, ConditionEnd::WithLaterAction), None)?;
-    outcome.queued = placed.queued;
-    outcome.detached = placed.detached;
-    Ok(outcome)
+    Ok(Standing {
+        what: node_for(task, ConditionEnd::WithLaterAction),
+        veto: None,
+        queued: placed.queued,
+        detached: placed.detached,
+    })
+}
+
+/// Adds a firing that is over to the course of the transaction around it. Its veto aborts the transaction. After an
+/// error a part may have been added.
+#[inline(never)]
+pub(crate) fn add_standing(
+    alloc: Global,
+    course: &mut Course,
+    over: Standing,
+) -> Result<(), AllocError>
+    ensures { OnOk result (course_in course.new ≡ followed (course_in course.old) (alone (standing_in over))) }
+{
+    let Standing {
+        what,
+        veto,
+        queued,
+        detached,
+    } = over;
+    append(&mut course.queued, queued)?;
+    append(&mut course.detached, detached)?;
+    course.end = stopped_by(veto);
+    course.put(node_of(what, End::Done, Vec::new(alloc)))
 }
 
 /// The entries of a rule's condition. A rule that the library lacks has none.

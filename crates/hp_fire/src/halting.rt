@@ -1,24 +1,29 @@
 //! Statements that end without effects.
 
-ghost use Rattle.std.specs.Prelude.{IfOk};
+ghost use Rattle.std.specs.Prelude.{OnOk};
 ghost use Rattle.hp_model.specs.Rules.{Library};
+ghost use Rattle.hp_model.specs.Soundness.{Answer};
 ghost use Rattle.hp_model.specs.Transactions.{Work};
 ghost use Rattle.hp_view.specs.Seeing.{Seeing};
 ghost use Rattle.hp_fire.specs.Mapped.{course as course_in};
-ghost use Rattle.hp_fire.specs.Runs.{Runs, Steps};
+ghost use Rattle.hp_fire.specs.Runs.{Adds, Steps};
 
 use crate::course::{Course, End};
 use hp_value::Halt;
-use std::alloc::{AllocError, Global};
+use std::alloc::AllocError;
 
-/// A course, or the course that a cause ended before it did anything.
-pub(crate) fn or_aborted(alloc: Global, given: Result<Course, Halt>) -> Result<Course, AllocError>
-    ensures { IfOk result (λ c. (library : Library) (work : Work) (old new : Seeing)
-        → Steps library work old new given → Runs library work old new (course_in c)) }
+/// Ends a course with the cause that ended its last statement before it did anything, if one did.
+pub(crate) fn or_aborted(course: &mut Course, given: Result<(), Halt>) -> Result<(), AllocError>
+    ensures { OnOk result ((library : Library) (work : Work) (old new : Seeing) (before : Answer)
+        → Steps library work old new before (course_in course.old) given
+        → Adds library work old new before (course_in course.new)) }
 {
     match given {
-        Ok(course) => Ok(course),
-        Err(Halt::Cause(cause)) => Ok(Course::ended(alloc, End::Abort(cause))),
+        Ok(()) => Ok(()),
+        Err(Halt::Cause(cause)) => {
+            course.end_with(End::Abort(cause));
+            Ok(())
+        }
         Err(Halt::Memory) => Err(AllocError),
     }
 }

@@ -1,13 +1,13 @@
 //! The part of statements before their event is signalled.
 
-ghost use Rattle.std.specs.Prelude.{◌≡◌, ℤ, Ok, IfOk, map, option_to_list};
+ghost use Rattle.std.specs.Prelude.{◌≡◌, ℤ, Ok, IfOk, OnOk, map, option_to_list};
 ghost use Rattle.hp_model.specs.Cells.{object_cell};
 ghost use Rattle.hp_model.specs.Tree.{without_detachments};
-ghost use Rattle.hp_model.specs.Transactions.{Work};
 ghost use Rattle.hp_model.specs.Rules as rules;
 ghost use Rattle.hp_model.specs.Firing as model;
 ghost use Rattle.hp_model.specs.Firing.{Level, level_at, values_of, boolean_value};
 ghost use Rattle.hp_model.specs.Conditions as conditions;
+ghost use Rattle.hp_model.specs.Answers.{followed, tells};
 ghost use Rattle.hp_model.specs.Operations.{operation_items};
 ghost use Rattle.hp_value.specs.Mapped.{Meets, environment, expression, keyed_row, primitive, rule_operation};
 ghost use Rattle.hp_value.specs.Mapped.{value as value_of};
@@ -17,16 +17,15 @@ ghost use Rattle.hp_tree.specs.Mapped.{items_in};
 ghost use Rattle.hp_view.specs.Adding.{AddsReads};
 ghost use Rattle.hp_view.specs.Seeing.{Seeing};
 ghost use Rattle.hp_ops.specs.Reading.{IsReadOf};
-ghost use Rattle.hp_fire.specs.Mapped.{context as context_in};
-ghost use Rattle.hp_fire.specs.Runs.{AreReady, Steps, Looks, Made};
+ghost use Rattle.hp_fire.specs.Mapped.{context as context_in, course as course_in};
+ghost use Rattle.hp_fire.specs.Runs.{AreReady, Steps, Looks};
 ghost use Rattle.hp_fire.specs.Signals.{signal_of};
 ghost use Rattle.hp_fire.specs.Statements.{OperationIsMade, TasksStart};
 
 use crate::context::Context;
 use crate::counting::Counting;
-use crate::course::Course;
+use crate::course::{Course, End};
 use crate::engine::Engine;
-use crate::halting::or_aborted;
 use crate::placing::one_task;
 use hp_ops::{
     GivenValues, create, delete, find_object, fire, given_values, new_object, set_rule, update,
@@ -125,15 +124,16 @@ impl<W> Engine<'_, W> {
         view: &mut View,
         operation: RuleOperation,
         rule: RuleNo,
-    ) -> Result<Course, Halt>
+        course: &mut Course,
+    ) -> Result<(), Halt>
         ensures { (level : Level) (context : model.Context)
             → let statement = rules.on_rule (rule_operation operation) rule in
-            Steps (library self.now.lib.now) (model.run_statement statement level context) view.old view.new result }
+            Steps (library self.now.lib.now) (model.run_statement statement level context) view.old view.new
+            (course_in course.old) (course_in course.new) result }
     {
         set_rule(self.alloc, view, self.lib, operation, rule)?;
-        let item = Item::Operation(Operation::OnRule { operation, rule });
-        let course = Course::of_item(self.alloc, item)?;
-        Ok(course)
+        course.add(Item::Operation(Operation::OnRule { operation, rule }))?;
+        Ok(())
     }
 
     /// Makes the task of a statement `fire`, as a list.
@@ -262,32 +262,35 @@ pub(crate) fn make_signal(
 
 /// Emits the value of a statement `emit`.
 #[inline(never)]
-pub(crate) fn emit(alloc: Global, context: &Context<'_>, expr: &Expr) -> Result<Course, Halt>
+pub(crate) fn emit(
+    alloc: Global,
+    context: &Context<'_>,
+    expr: &Expr,
+    course: &mut Course,
+) -> Result<(), Halt>
     ensures { (view : Seeing) (lib : rules.Library) (level : Level)
         → let statement = rules.emit (expression expr.now) in
-        Steps lib (model.run_statement statement level (context_in context.now)) view view result }
+        Steps lib (model.run_statement statement level (context_in context.now)) view view
+        (course_in course.old) (course_in course.new) result }
 {
     let value = expr.eval(alloc, &context.env)?;
-    let course = Course::of_item(alloc, Item::Emit(value))?;
-    Ok(course)
+    course.add(Item::Emit(value))?;
+    Ok(())
 }
 
-/// The course of a statement that made an occurrence and signalled it: its operation, if it is one, and then what the
-/// signal did. A cause for which the signal ended aborts the transaction.
-pub(crate) fn event_course(
-    alloc: Global,
-    prim: Prim,
-    given: Result<Course, Halt>,
-) -> Result<Course, Halt>
-    ensures { (library : rules.Library) (level : Level) (work : Work) (old middle new : Seeing)
-        → Made library level work old middle (primitive prim)
-        → Steps library (model.signal_in level (primitive prim)) middle new given
-        → Steps library work old new result }
+/// Adds the operation that an occurrence is to a course, which then is done so far. An occurrence that isn't an
+/// operation adds nothing.
+pub(crate) fn add_operation(course: &mut Course, prim: Prim) -> Result<(), AllocError>
+    ensures { OnOk result (course_in course.new
+        ≡ followed (course_in course.old) (tells (without_detachments (operation_items (primitive prim))))) }
 {
-    let operation = operation_item(prim);
-    let mut course = or_aborted(alloc, given)?;
-    course.begin_with(operation)?;
-    Ok(course)
+    match operation_item(prim) {
+        Some(item) => course.add(item),
+        None => {
+            course.end_with(End::Done);
+            Ok(())
+        }
+    }
 }
 
 /// The item of an operation. An occurrence that isn't an operation has none.

@@ -123,57 +123,44 @@ pub(crate) fn one_task(alloc: Global, task: Task) -> Result<Vec<Task>, AllocErro
 pub fn group_course(alloc: Global, group: GroupOutcome) -> Result<Course, AllocError>
     ensures { IfOk result (λ c. course_in c ≡ group_answer (group_in group)) }
 {
-    let end = stopped_by(group.end);
-    let mut course = Course::ended(alloc, end);
-    for outcome in group.outcomes {
-        add_firing(&mut course, outcome)?;
-    }
+    let mut course = Course::ended(alloc, End::Done);
+    add_group(&mut course, group)?;
     Ok(course)
 }
 
-/// The course of a signal: the tasks that it queued and detached, and then its group.
+/// Adds a group of firings to the course of the transaction around it. A veto that stopped the group aborts the
+/// transaction. After an error a part may have been added.
+fn add_group(course: &mut Course, group: GroupOutcome) -> Result<(), AllocError>
+    ensures { OnOk result (course_in course.new ≡ followed (course_in course.old) (group_answer (group_in group))) }
+{
+    course.end = stopped_by(group.end);
+    for outcome in group.outcomes {
+        add_firing(course, outcome)?;
+    }
+    Ok(())
+}
+
+/// Adds what a signal did to a course: the tasks that it queued and detached, and then its group. After an error a part
+/// may have been added.
 #[inline(never)]
-pub(crate) fn placed_course(
-    alloc: Global,
+pub(crate) fn add_placed(
+    course: &mut Course,
     placed: Placed,
     group: GroupOutcome,
-) -> Result<Course, AllocError>
+) -> Result<(), AllocError>
     ensures { let queued = map task_of placed.queued.items in let detached = map detached_of placed.detached.items in
         let before : Answer = record { end = done; queued = queued; detached = detached; items = no_items } in
-        IfOk result (λ c. course_in c ≡ followed before (group_answer (group_in group))) }
+        OnOk result (course_in course.new
+        ≡ followed (course_in course.old) (followed before (group_answer (group_in group)))) }
 {
     let Placed {
         immediate: _,
         queued,
         detached,
     } = placed;
-    let mut course = Course {
-        end: End::Done,
-        queued,
-        detached,
-        items: Vec::new(alloc),
-    };
-    course.join(group_course(alloc, group)?)?;
-    Ok(course)
-}
-
-/// A firing without siblings as a part of the transaction around it. Its veto aborts the transaction.
-pub(crate) fn firing_course(outcome: Outcome) -> Course
-    ensures { let veto = option_map veto_in outcome.end in
-        course_in result ≡ group_answer (record { firings = firing outcome ∷ []; vetoed_by = veto }) }
-{
-    let Outcome {
-        end,
-        queued,
-        detached,
-        tree,
-    } = outcome;
-    Course {
-        end: stopped_by(end),
-        queued,
-        detached,
-        items: tree,
-    }
+    append(&mut course.queued, queued)?;
+    append(&mut course.detached, detached)?;
+    add_group(course, group)
 }
 
 /// Adds a firing to a course. After an error a part may have been added.
@@ -193,7 +180,7 @@ fn add_firing(course: &mut Course, outcome: Outcome) -> Result<(), AllocError>
 }
 
 /// The end of the transaction around a group that this veto stopped; `Done` if none did.
-fn stopped_by(veto: Option<Veto>) -> End
+pub(crate) fn stopped_by(veto: Option<Veto>) -> End
     ensures { mapped.end result ≡ end_of (option_map veto_in veto) }
 {
     match veto {

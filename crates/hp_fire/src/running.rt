@@ -1,18 +1,20 @@
 //! The tasks of signals, groups and firings. They call the statements in `statement`, which call them.
 
-ghost use Rattle.std.specs.Prelude.{◌≡◌, ◌+◌, ◌<◌, ◌≤◌, IfOk, All, map, length};
+ghost use Rattle.std.specs.Prelude.{◌≡◌, ◌+◌, ◌<◌, ◌≤◌, IfOk, OnOk, All, map, length};
+ghost use Rattle.hp_model.specs.Firing.{fire_task};
 ghost use Rattle.hp_model.specs.Transactions.{Work};
 ghost use Rattle.hp_rule.specs.Mapped.{library, task as task_of};
 ghost use Rattle.hp_view.specs.Seeing.{Seeing};
-ghost use Rattle.hp_fire.specs.Runs.{AreReady, Steps};
+ghost use Rattle.hp_fire.specs.Mapped.{course as course_in};
+ghost use Rattle.hp_fire.specs.Runs.{AddsFiring, AreReady, Steps};
 ghost use Rattle.hp_fire.specs.Statements.{TasksStart, SiblingsFire, TaskFires};
 ghost use Rattle.hp_fire.specs.Weights.{deepest, levels, left};
 
 use crate::context::Context;
 use crate::course::{Course, End, GroupOutcome};
-use crate::deciding::{Decision, action_of};
+use crate::deciding::{Decision, action_of, add_standing};
 use crate::engine::Engine;
-use crate::placing::{firing_course, place_tasks, placed_course, single_immediate};
+use crate::placing::{add_placed, place_tasks, single_immediate};
 use crate::speculate::{Effort, FIRING, Group, Workers};
 use hp_attempt::Outcome;
 use hp_rule::Task;
@@ -29,20 +31,23 @@ impl<W: Workers> Engine<'_, W> {
         view: &mut View,
         tasks: Result<Vec<Task>, Halt>,
         depth: u8,
-    ) -> Result<Course, Halt>
+        course: &mut Course,
+    ) -> Result<(), Halt>
         requires ready { W.ready self.now.workers.now }
         requires tasks { IfOk tasks (λ ts. AreReady (library self.now.lib.now) depth (map task_of ts.items)) }
         ensures { (work : Work) (before : Seeing) → TasksStart self.now.lib.now depth work before view.old tasks
-            → Steps (library self.now.lib.now) work before view.new result }
+            → Steps (library self.now.lib.now) work before view.new (course_in course.old) (course_in course.new)
+            result }
     {
         let tasks = tasks?;
         if tasks.is_empty() {
-            return Ok(Course::ended(self.alloc, End::Done));
+            course.end_with(End::Done);
+            return Ok(());
         }
         let tasks = match single_immediate(tasks) {
             Ok(task) => {
-                let outcome = self.fire_task(view, &task)?;
-                return Ok(firing_course(outcome));
+                self.fire_in(view, &task, course)?;
+                return Ok(());
             }
             Err(tasks) => tasks,
         };
@@ -53,8 +58,8 @@ impl<W: Workers> Engine<'_, W> {
             .saturating_sub(depth)
             .saturating_sub(1);
         let group = self.fire_group(view, &placed.immediate, nested, true, false)?;
-        let course = placed_course(self.alloc, placed, group)?;
-        Ok(course)
+        add_placed(course, placed, group)?;
+        Ok(())
     }
 
     /// Fires tasks as siblings, in each of which at most `nested` firings may nest. If `stop_at_veto` is set, nothing
@@ -106,14 +111,30 @@ impl<W: Workers> Engine<'_, W> {
         requires ready { W.ready self.now.workers.now }
         ensures { IfOk result (TaskFires self.now.lib.now task.now view.old view.new) }
     {
+        let mut course = Course::ended(self.alloc, End::Done);
+        self.fire_in(view, task, &mut course)?;
+        Ok(course.into_outcome())
+    }
+
+    /// Fires a task without siblings, and adds the firing to the course of the transaction around it, which its veto
+    /// aborts.
+    #[cycle(fire)]
+    fn fire_in(&self, view: &mut View, task: &Task, course: &mut Course) -> Result<(), AllocError>
+        requires ready { W.ready self.now.workers.now }
+        ensures { OnOk result (AddsFiring (library self.now.lib.now)
+            (λ S. fire_task (library self.now.lib.now) S (task_of task.now)) view.old view.new
+            (course_in course.old) (course_in course.new)) }
+    {
         self.effort.add(FIRING);
         match self.decide(view, task)? {
-            Decision::Over(outcome) => Ok(outcome),
+            Decision::Over(over) => add_standing(self.alloc, course, over),
             Decision::Acts(what, found) => {
                 let mark = view.enter();
                 let context = Context::of_action(task, found.findings());
-                let course = self.statements(view, action_of(self.lib, task.rule), &context)?;
-                self.close_action(view, mark, task, what, course)
+                let around = course.begin_part(self.alloc);
+                let action = action_of(self.lib, task.rule);
+                self.statements(view, action, &context, course)?;
+                self.close_action(view, mark, task, what, around, course)
             }
         }
     }

@@ -1,12 +1,13 @@
 //! Statements of each kind, and bodies.
 
-ghost use Rattle.std.specs.Prelude.{IfOk};
+ghost use Rattle.std.specs.Prelude.{OnOk};
 ghost use Rattle.hp_model.specs.Rules as rules;
 ghost use Rattle.hp_model.specs.Transactions.{Work};
 ghost use Rattle.hp_value.specs.Mapped.{expression, primitive};
 ghost use Rattle.hp_query.specs.Mapped.{aggregate as aggregate_of};
 ghost use Rattle.hp_rule.specs.Mapped.{body_in, library, statement as statement_of};
 ghost use Rattle.hp_view.specs.Seeing.{Seeing};
+ghost use Rattle.hp_fire.specs.Mapped.{course as course_in};
 ghost use Rattle.hp_fire.specs.Runs.{Steps, Makes};
 ghost use Rattle.hp_fire.specs.Statements.{StatementRuns, BodyRuns, body_for_each, level_in};
 
@@ -15,7 +16,7 @@ use crate::context::Context;
 use crate::course::{Course, End};
 use crate::engine::Engine;
 use crate::halting::or_aborted;
-use crate::operations::{Binding, Selection, emit, event_course, is_true, make_signal};
+use crate::operations::{Binding, Selection, add_operation, emit, is_true, make_signal};
 use crate::speculate::{STATEMENT, Workers};
 use crate::vetoes::run_veto;
 use hp_ops::trigger;
@@ -26,23 +27,25 @@ use hp_view::View;
 use std::alloc::AllocError;
 
 impl<W: Workers> Engine<'_, W> {
-    /// Runs the statements of a body in order, up to the first that isn't done.
+    /// Runs the statements of a body in order, up to the first that isn't done, and adds what they do to a course.
     #[cycle(fire)]
     pub(crate) fn statements(
         &self,
         view: &mut View,
         body: &[Stmt],
         context: &Context<'_>,
-    ) -> Result<Course, AllocError>
+        course: &mut Course,
+    ) -> Result<(), AllocError>
         requires ready { W.ready self.now.workers.now }
-        ensures { IfOk result (λ c. BodyRuns self.now.lib.now context.now (body_in body.now) view.old view.new c) }
+        ensures { OnOk result (BodyRuns self.now.lib.now context.now (body_in body.now) view.old view.new
+            course.old course.new) }
     {
         self.effort.add(STATEMENT.saturating_mul(body.len() as u64));
         if let [only] = body {
-            let given = self.statement(view, only, context);
-            return or_aborted(self.alloc, given);
+            let given = self.statement(view, only, context, course);
+            return or_aborted(course, given);
         }
-        self.in_order(view, body, context)
+        self.in_order(view, body, context, course)
     }
 
     /// Runs the statements of a body one after another, up to the first that isn't done.
@@ -54,27 +57,35 @@ impl<W: Workers> Engine<'_, W> {
         view: &mut View,
         body: &[Stmt],
         context: &Context<'_>,
-    ) -> Result<Course, AllocError>
+        course: &mut Course,
+    ) -> Result<(), AllocError>
         requires ready { W.ready self.now.workers.now }
-        ensures { IfOk result (λ c. BodyRuns self.now.lib.now context.now (body_in body.now) view.old view.new c) }
+        ensures { OnOk result (BodyRuns self.now.lib.now context.now (body_in body.now) view.old view.new
+            course.old course.new) }
     {
-        let mut so_far = Course::ended(self.alloc, End::Done);
+        course.end_with(End::Done);
         for stmt in body {
-            let result = self.statement(view, stmt, context);
-            let more = or_aborted(self.alloc, result)?;
-            so_far.join(more)?;
-            if !so_far.is_done() {
-                return Ok(so_far);
+            let given = self.statement(view, stmt, context, course);
+            or_aborted(course, given)?;
+            if !course.is_done() {
+                return Ok(());
             }
         }
-        Ok(so_far)
+        Ok(())
     }
 
     /// Runs a statement. A cause ends it before it has any effect.
     #[cycle(fire)]
-    fn statement(&self, view: &mut View, stmt: &Stmt, context: &Context<'_>) -> Result<Course, Halt>
+    fn statement(
+        &self,
+        view: &mut View,
+        stmt: &Stmt,
+        context: &Context<'_>,
+        course: &mut Course,
+    ) -> Result<(), Halt>
         requires ready { W.ready self.now.workers.now }
-        ensures { StatementRuns self.now.lib.now context.now (statement_of stmt.now) view.old view.new result }
+        ensures { StatementRuns self.now.lib.now context.now (statement_of stmt.now) view.old view.new
+            course.old course.new result }
     {
         match stmt {
             Stmt::Create { class, key, pairs } => {
@@ -82,6 +93,7 @@ impl<W: Workers> Engine<'_, W> {
                     self.create_object(view, context, *class, key, pairs),
                     view,
                     context,
+                    course,
                 )
             }
             Stmt::Update { class, key, pairs } => {
@@ -89,6 +101,7 @@ impl<W: Workers> Engine<'_, W> {
                     self.update_object(view, context, *class, key, pairs),
                     view,
                     context,
+                    course,
                 )
             }
             Stmt::Delete { class, key } => {
@@ -96,6 +109,7 @@ impl<W: Workers> Engine<'_, W> {
                     self.delete_object(view, context, *class, key),
                     view,
                     context,
+                    course,
                 )
             }
             Stmt::Signal { name, arguments } => {
@@ -103,14 +117,15 @@ impl<W: Workers> Engine<'_, W> {
                     make_signal(self.alloc, &context.env, name, arguments),
                     view,
                     context,
+                    course,
                 )
             }
-            Stmt::Emit(value) => emit(self.alloc, context, value),
+            Stmt::Emit(value) => emit(self.alloc, context, value, course),
             Stmt::If {
                 condition,
                 then_body,
                 else_body,
-            } => self.run_branch(view, condition, then_body, else_body, context),
+            } => self.run_branch(view, condition, then_body, else_body, context, course),
             Stmt::Each {
                 variable,
                 class,
@@ -122,12 +137,12 @@ impl<W: Workers> Engine<'_, W> {
                     class: *class,
                     predicate,
                 };
-                self.each_found(view, selection, body, context)
+                self.each_found(view, selection, body, context, course)
             }
             Stmt::For { query, body } => {
                 let query: &str = query;
                 let rows = (&*context).kept(query);
-                self.each_row(view, body, query, rows, context)
+                self.each_row(view, body, query, rows, context, course)
             }
             Stmt::With {
                 variable,
@@ -140,20 +155,25 @@ impl<W: Workers> Engine<'_, W> {
                     class: *class,
                     key,
                 };
-                self.with_object(view, binding, body, context)
+                self.with_object(view, binding, body, context, course)
             }
-            Stmt::Sub { body, otherwise } => self.sub_or_otherwise(view, body, otherwise, context),
+            Stmt::Sub { body, otherwise } => {
+                self.sub_or_otherwise(view, body, otherwise, context, course)
+            }
             Stmt::Let {
                 name,
                 aggregate,
                 body,
-            } => self.with_let(view, name, aggregate, body, context),
-            Stmt::Abort => Ok(Course::ended(self.alloc, End::Abort(Cause::Asked))),
-            Stmt::Veto(message) => run_veto(self.alloc, context, message),
-            Stmt::OnRule { operation, rule } => self.change_rule(view, *operation, *rule),
+            } => self.with_let(view, name, aggregate, body, context, course),
+            Stmt::Abort => {
+                course.end_with(End::Abort(Cause::Asked));
+                Ok(())
+            }
+            Stmt::Veto(message) => run_veto(self.alloc, context, message, course),
+            Stmt::OnRule { operation, rule } => self.change_rule(view, *operation, *rule, course),
             Stmt::Fire(rule) => {
                 let tasks = self.make_task(view, *rule, context.depth, context.env.time);
-                self.start(view, tasks, context.depth)
+                self.start(view, tasks, context.depth, course)
             }
         }
     }
@@ -172,18 +192,19 @@ impl<W: Workers> Engine<'_, W> {
         then_body: &[Stmt],
         else_body: &[Stmt],
         context: &Context<'_>,
-    ) -> Result<Course, Halt>
+        course: &mut Course,
+    ) -> Result<(), Halt>
         requires ready { W.ready self.now.workers.now }
         ensures { let condition = expression condition.now in
             let statement = rules.when condition (body_in then_body.now) (body_in else_body.now) in
-            StatementRuns self.now.lib.now context.now statement view.old view.new result }
+            StatementRuns self.now.lib.now context.now statement view.old view.new course.old course.new result }
     {
         if is_true(self.alloc, &context.env, condition)? {
-            let course = self.statements(view, then_body, context)?;
-            Ok(course)
+            self.statements(view, then_body, context, course)?;
+            Ok(())
         } else {
-            let course = self.statements(view, else_body, context)?;
-            Ok(course)
+            self.statements(view, else_body, context, course)?;
+            Ok(())
         }
     }
 
@@ -196,12 +217,13 @@ impl<W: Workers> Engine<'_, W> {
         selection: Selection<'_>,
         body: &[Stmt],
         context: &Context<'_>,
-    ) -> Result<Course, Halt>
+        course: &mut Course,
+    ) -> Result<(), Halt>
         requires ready { W.ready self.now.workers.now }
         ensures { let x = selection.entry.variable.now in
             let predicate = expression selection.entry.predicate.now in
             let statement = rules.each x selection.entry.class predicate (body_in body.now) in
-            StatementRuns self.now.lib.now context.now statement view.old view.new result }
+            StatementRuns self.now.lib.now context.now statement view.old view.new course.old course.new result }
     {
         let Selection {
             variable,
@@ -209,7 +231,7 @@ impl<W: Workers> Engine<'_, W> {
             predicate,
         } = selection;
         let rows = self.select_rows(view, context, variable, class, predicate)?;
-        self.each_row(view, body, variable, &rows, context)
+        self.each_row(view, body, variable, &rows, context, course)
     }
 
     /// Runs a statement `with`.
@@ -221,12 +243,13 @@ impl<W: Workers> Engine<'_, W> {
         binding: Binding<'_>,
         body: &[Stmt],
         context: &Context<'_>,
-    ) -> Result<Course, Halt>
+        course: &mut Course,
+    ) -> Result<(), Halt>
         requires ready { W.ready self.now.workers.now }
         ensures { let x = binding.entry.variable.now in
             let key = expression binding.entry.key.now in
             let statement = rules.with_object x binding.entry.class key (body_in body.now) in
-            StatementRuns self.now.lib.now context.now statement view.old view.new result }
+            StatementRuns self.now.lib.now context.now statement view.old view.new course.old course.new result }
     {
         let Binding {
             variable,
@@ -235,8 +258,8 @@ impl<W: Workers> Engine<'_, W> {
         } = binding;
         let row = self.named_object(view, context, class, key)?;
         let inner = (&*context).bound(variable, row.key, &row.row);
-        let course = self.statements(view, body, &inner)?;
-        Ok(course)
+        self.statements(view, body, &inner, course)?;
+        Ok(())
     }
 
     /// Runs a statement `let`. Its value is found on the view as it then is, before the body runs.
@@ -249,15 +272,16 @@ impl<W: Workers> Engine<'_, W> {
         aggregate: &Aggregate,
         body: &[Stmt],
         context: &Context<'_>,
-    ) -> Result<Course, Halt>
+        course: &mut Course,
+    ) -> Result<(), Halt>
         requires ready { W.ready self.now.workers.now }
         ensures { let statement = rules.let_value name.now (aggregate_of aggregate.now) (body_in body.now) in
-            StatementRuns self.now.lib.now context.now statement view.old view.new result }
+            StatementRuns self.now.lib.now context.now statement view.old view.new course.old course.new result }
     {
         let value = self.let_value(view, context, aggregate)?;
         let inner = (&*context).holding(name, &value);
-        let course = self.statements(view, body, &inner)?;
-        Ok(course)
+        self.statements(view, body, &inner, course)?;
+        Ok(())
     }
 
     /// Runs a statement `sub`.
@@ -269,20 +293,21 @@ impl<W: Workers> Engine<'_, W> {
         body: &[Stmt],
         otherwise: &[Stmt],
         context: &Context<'_>,
-    ) -> Result<Course, Halt>
+        course: &mut Course,
+    ) -> Result<(), Halt>
         requires ready { W.ready self.now.workers.now }
         ensures { let statement = rules.subtransaction (body_in body.now) (body_in otherwise.now) in
-            StatementRuns self.now.lib.now context.now statement view.old view.new result }
+            StatementRuns self.now.lib.now context.now statement view.old view.new course.old course.new result }
     {
         let mark = view.enter();
-        let inside = self.statements(view, body, context)?;
-        let (mut course, aborted) = close_sub(self.alloc, view, mark, inside)?;
+        let around = course.begin_part(self.alloc);
+        self.statements(view, body, context, course)?;
+        let aborted = close_sub(self.alloc, view, mark, around, course)?;
         if !aborted {
-            return Ok(course);
+            return Ok(());
         }
-        let more = self.statements(view, otherwise, context)?;
-        course.join(more)?;
-        Ok(course)
+        self.statements(view, otherwise, context, course)?;
+        Ok(())
     }
 
     /// Runs a body for each row, bound to a name, up to the first run that isn't done.
@@ -294,36 +319,39 @@ impl<W: Workers> Engine<'_, W> {
         variable: &str,
         rows: &[KeyedRow],
         context: &Context<'_>,
-    ) -> Result<Course, Halt>
+        course: &mut Course,
+    ) -> Result<(), Halt>
         requires ready { W.ready self.now.workers.now }
         ensures { let work = body_for_each self.now.lib.now context.now variable.now rows.now (body_in body.now) in
-            Steps (library self.now.lib.now) work view.old view.new result }
+            Steps (library self.now.lib.now) work view.old view.new (course_in course.old) (course_in course.new)
+            result }
     {
-        let mut so_far = Course::ended(self.alloc, End::Done);
+        course.end_with(End::Done);
         for row in rows {
             let inner = (&*context).bound(&*variable, row.key, &row.row);
-            let more = self.statements(view, body, &inner)?;
-            so_far.join(more)?;
-            if !so_far.is_done() {
-                return Ok(so_far);
+            self.statements(view, body, &inner, course)?;
+            if !course.is_done() {
+                return Ok(());
             }
         }
-        Ok(so_far)
+        Ok(())
     }
 
-    /// Signals what a statement has made: the event of an operation, or the signal of a statement `signal`. A cause for
-    /// which it was not made ends the statement.
+    /// Adds what a statement has made to a course and signals it: the event of an operation, or the signal of a
+    /// statement `signal`. A cause for which it was not made ends the statement.
     #[cycle(fire)]
     fn signal_event(
         &self,
         made: Result<Prim, Halt>,
         view: &mut View,
         context: &Context<'_>,
-    ) -> Result<Course, Halt>
+        course: &mut Course,
+    ) -> Result<(), Halt>
         requires ready { W.ready self.now.workers.now }
         ensures { (work : Work) (before : Seeing) → let level = level_in self.now.lib.now context.now in
             Makes primitive (library self.now.lib.now) level work before view.old made
-            → Steps (library self.now.lib.now) work before view.new result }
+            → Steps (library self.now.lib.now) work before view.new (course_in course.old) (course_in course.new)
+            result }
     {
         let prim = made?;
         let tasks = trigger(
@@ -334,7 +362,9 @@ impl<W: Workers> Engine<'_, W> {
             context.depth,
             context.env.time,
         );
-        let result = self.start(view, tasks, context.depth);
-        event_course(self.alloc, prim, result)
+        add_operation(course, prim)?;
+        let started = self.start(view, tasks, context.depth, course);
+        or_aborted(course, started)?;
+        Ok(())
     }
 }

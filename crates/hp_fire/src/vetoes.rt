@@ -1,13 +1,13 @@
 //! Vetoes: those of statements, and those of closed rules.
 
-ghost use Rattle.std.specs.Prelude.{◌≡◌, IfOk, option_map};
+ghost use Rattle.std.specs.Prelude.{◌≡◌, IfOk, OnOk, option_map};
 ghost use Rattle.hp_model.specs.Rules.{Library as ModelLibrary, rule_at, veto_with};
 ghost use Rattle.hp_model.specs.Firing as model;
 ghost use Rattle.hp_model.specs.Firing.{Level, veto_of, vetoes};
 ghost use Rattle.hp_value.specs.Mapped.{expression, value, veto as veto_in};
 ghost use Rattle.hp_view.specs.Seeing.{Seeing};
 ghost use Rattle.hp_fire.specs.Mapped.{context as context_in, course as course_in, end};
-ghost use Rattle.hp_fire.specs.Runs.{Runs, Steps};
+ghost use Rattle.hp_fire.specs.Runs.{Adds, Steps};
 ghost use Rattle.hp_fire.specs.Statements.{veto_statement};
 ghost use Rattle.hp_rule.specs.Mapped.{library};
 
@@ -25,41 +25,59 @@ pub(crate) fn run_veto(
     alloc: Global,
     context: &Context<'_>,
     message: &Option<Box<Expr>>,
-) -> Result<Course, Halt>
+    course: &mut Course,
+) -> Result<(), Halt>
     ensures { (lib : ModelLibrary) (level : Level) (view : Seeing)
-        → Steps lib (model.run_statement (veto_statement message.now) level (context_in context.now)) view view result }
+        → let statement = veto_statement message.now in
+        Steps lib (model.run_statement statement level (context_in context.now)) view view
+        (course_in course.old) (course_in course.new) result }
 {
     match message {
-        Some(message) => veto_saying(alloc, context, message),
+        Some(message) => veto_saying(alloc, context, message, course),
         None => {
-            let course = vetoed(alloc, context.rule, None)?;
-            Ok(course)
+            vetoed(alloc, context.rule, None, course)?;
+            Ok(())
         }
     }
 }
 
 /// Runs a statement `veto` with a message.
-fn veto_saying(alloc: Global, context: &Context<'_>, message: &Expr) -> Result<Course, Halt>
+fn veto_saying(
+    alloc: Global,
+    context: &Context<'_>,
+    message: &Expr,
+    course: &mut Course,
+) -> Result<(), Halt>
     ensures { (lib : ModelLibrary) (level : Level) (view : Seeing)
         → let statement = veto_with (expression message.now) in
-        Steps lib (model.run_statement statement level (context_in context.now)) view view result }
+        Steps lib (model.run_statement statement level (context_in context.now)) view view
+        (course_in course.old) (course_in course.new) result }
 {
     let said = message.eval(alloc, &context.env)?;
-    let course = vetoed(alloc, context.rule, Some(said))?;
-    Ok(course)
+    vetoed(alloc, context.rule, Some(said), course)?;
+    Ok(())
 }
 
-/// The course of a veto. In the body of a script a veto does nothing; a checked body has none.
-fn vetoed(alloc: Global, rule: Option<RuleNo>, message: Option<Value>) -> Result<Course, AllocError>
-    ensures { IfOk result (λ c. (lib : ModelLibrary) (view : Seeing)
-        → Runs lib (vetoes rule (option_map value message)) view view (course_in c)) }
+/// Ends a course with a veto. In the body of a script a veto does nothing; a checked body has none.
+fn vetoed(
+    alloc: Global,
+    rule: Option<RuleNo>,
+    message: Option<Value>,
+    course: &mut Course,
+) -> Result<(), AllocError>
+    ensures { OnOk result ((lib : ModelLibrary) (view : Seeing)
+        → Adds lib (vetoes rule (option_map value message)) view view (course_in course.old) (course_in course.new)) }
 {
     match rule {
         Some(rule) => {
             let veto = Veto::new(alloc, rule, message)?;
-            Ok(Course::ended(alloc, End::Veto(veto)))
+            course.end_with(End::Veto(veto));
+            Ok(())
         }
-        None => Ok(Course::ended(alloc, End::Done)),
+        None => {
+            course.end_with(End::Done);
+            Ok(())
+        }
     }
 }
 

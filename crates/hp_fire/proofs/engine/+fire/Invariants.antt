@@ -7,6 +7,7 @@ use Rattle.hp_rule.specs.declared.stmt.Stmt.{size-Stmt}
 use Rattle.hp_rule.specs.Mapped.{library, statement, body_in}
 use Rattle.hp_fire.specs.Mapped.{context, course}
 use Rattle.hp_fire.specs.Weights.{deepest, levels, left}
+use Rattle.hp_fire.specs.Runs.{Appends}
 use Rattle.hp_fire.proofs.Steps.{Loop}
 use Rattle.hp_fire.proofs.engine.+fire.Given as goal
 
@@ -52,17 +53,22 @@ abbrev pub decreases-Engine::fire_group-fire : goal.decreases-Engine::fire_group
 decreases-Engine::fire_group-fire g l = 16 * left l.self.now.lib.now l.nested (deepest l.self.now.lib.now) + 12
 
 abbrev pub decreases-Engine::fire_task : goal.decreases-Engine::fire_task
-decreases-Engine::fire_task g l = 16 * left l.self.now.lib.now (levels l.self.now.lib.now l.task.now.depth) (deepest l.self.now.lib.now) + 3
+decreases-Engine::fire_task g l = 16 * left l.self.now.lib.now (levels l.self.now.lib.now l.task.now.depth) (deepest l.self.now.lib.now) + 4
+
+abbrev pub decreases-Engine::fire_in : goal.decreases-Engine::fire_in
+decreases-Engine::fire_in g l = 16 * left l.self.now.lib.now (levels l.self.now.lib.now l.task.now.depth) (deepest l.self.now.lib.now) + 3
 
 -- ---- loops
 
 abbrev pub invariant-Engine::in_order-loop-stmt : goal.invariant-Engine::in_order-loop-stmt
 invariant-Engine::in_order-loop-stmt g l =
-    Loop (library l.self.lib.now) (λ s. run_statement (statement s) (level_at (library l.self.lib.now) l.context.env.time l.context.depth) (context l.context))
-    (run_body (body_in l.body) (level_at (library l.self.lib.now) l.context.env.time l.context.depth) (context l.context)) (drop l.stmt-index l.body) l.fn.view l.view (course l.so_far)
+    Appends (Loop (library l.self.lib.now) (λ s. run_statement (statement s) (level_at (library l.self.lib.now) l.context.env.time l.context.depth) (context l.context))
+    (run_body (body_in l.body) (level_at (library l.self.lib.now) l.context.env.time l.context.depth) (context l.context)) (drop l.stmt-index l.body) l.fn.view l.view)
+    (course l.fn.course) (course l.course)
 
 abbrev pub invariant-Engine::each_row-loop-row : goal.invariant-Engine::each_row-loop-row
 invariant-Engine::each_row-loop-row g l =
-    Loop (library l.self.lib.now) (λ r. run_body (body_in l.body) (level_at (library l.self.lib.now) l.context.env.time l.context.depth) (with_row l.variable r (context l.context)))
+    Appends (Loop (library l.self.lib.now) (λ r. run_body (body_in l.body) (level_at (library l.self.lib.now) l.context.env.time l.context.depth) (with_row l.variable r (context l.context)))
     (for_each (map keyed_row l.rows) (λ r. run_body (body_in l.body) (level_at (library l.self.lib.now) l.context.env.time l.context.depth) (with_row l.variable r (context l.context))))
-    (map keyed_row (drop l.row-index l.rows)) l.fn.view l.view (course l.so_far)
+    (map keyed_row (drop l.row-index l.rows)) l.fn.view l.view)
+    (course l.fn.course) (course l.course)

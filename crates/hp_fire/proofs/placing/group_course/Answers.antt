@@ -1,20 +1,7 @@
-use Rattle.std.proofs.Common.{rules, ◌≡◌, ap, sym, ◌∙◌, [], ◌∷◌, map, length}
-use Rattle.hp_attempt.specs.Mapped.{firing}
-use Rattle.hp_fire.specs.Joined.{with_firings}
-use Rattle.hp_fire.specs.Mapped.{course}
-use Rattle.hp_fire.proofs.Starting.{none_long}
-use Rattle.hp_fire.proofs.Trees.{firings_more, firings_none}
+use Rattle.std.proofs.Common.{ap, ◌∙◌}
+use Rattle.hp_model.specs.Answers.{followed, group_answer}
+use Rattle.hp_fire.specs.Mapped.{group}
 use Rattle.hp_fire.proofs.placing.group_course.Goals as goal
 
-pub loop-outcome-preserved : goal.loop-outcome-preserved
-loop-outcome-preserved c =
-    let rest : c.loop-outcome.outcome-iterator.rest.items ≡ c.in-Some.outcome ∷ c.next.new.self.rest.items = search rules in
-    let later = map firing c.next.new.self.rest.items in
-    ap (λ a. with_firings a later) c.in_ok-add_firing.ensures ∙ firings_more (course c.loop-outcome.course) (firing c.in-Some.outcome) later
-    ∙ ap (λ xs. with_firings (course c.loop-outcome.course) (map firing xs)) (sym rest) ∙ c.loop-outcome.invariant
-
 pub returns : goal.returns
-returns c =
-    let long : length c.loop-outcome.outcome-iterator.rest.items ≡ c.loop-outcome.outcome-iterator.rest.len = search rules in
-    let over : c.loop-outcome.outcome-iterator.rest.items ≡ [] = none_long _ (long ∙ c.in-None.ensures.steps.0) in
-    sym (firings_none (course c.loop-outcome.course)) ∙ ap (λ xs. with_firings (course c.loop-outcome.course) (map firing xs)) (sym over) ∙ c.loop-outcome.invariant
+returns c = c.in_ok-add_group.ensures ∙ ap (λ a. followed a (group_answer (group c.args.group))) c.ended-course.ensures

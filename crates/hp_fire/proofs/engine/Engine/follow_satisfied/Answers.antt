@@ -12,10 +12,10 @@ pub returns-in-Immediate : goal.returns-in-Immediate
 returns-in-Immediate g c = λ view.
     follow_now (library c.args.self.now.lib.now) (task c.args.task.now) (findings c.args.found) _ _ view (sym c.in-Immediate.ensures) c.node_for-what.ensures
 
-pub returns-in_ok-outcome-in_default : goal.returns-in_ok-outcome-in_default
-returns-in_ok-outcome-in_default g c = λ view.
+pub returns-in_ok-over-in_default : goal.returns-in_ok-over-in_default
+returns-in_ok-over-in_default g c = λ view.
     let t = task c.args.task.now in
     let found = findings c.args.found in
     follow_later (library c.args.self.now.lib.now) t found _ _ view
     (λ e. apart_from_immediate c.action_coupling.result c.in_default.not-Immediate (c.action_coupling.ensures ∙ e))
-    (c.in_ok-outcome-in_default.ensures ∙ ap (λ (p : Coupling). handing_on (fire_node t.rule t.place with_later_action) (action_task p t found ∷ [])) c.action_coupling.ensures)
+    (c.in_ok-over-in_default.ensures ∙ ap (λ (p : Coupling). handing_on (fire_node t.rule t.place with_later_action) (action_task p t found ∷ [])) c.action_coupling.ensures)
