@@ -374,12 +374,20 @@ impl<'a> Env<'a> {
         found.ok_or(Cause::NoParameter)
     }
 
+    /// The value of a field of the row of this name, where it stands.
+    pub(crate) fn field_at(&self, variable: &str, field: &str) -> Result<&'a Value, Cause>
+        ensures { outcome (λ v. value v.now) result
+            ≡ model.value_of (environment self.now) (model.field_of variable.now field.now) }
+    {
+        let (_, row) = self.row(variable)?;
+        row.field(field)
+    }
+
     /// The value of a field of the row of this name.
     pub(crate) fn field_of(&self, variable: &str, field: &str) -> Result<Value, Halt>
         ensures { Meets value result (model.value_of (environment self.now) (model.field_of variable.now field.now)) }
     {
-        let (_, row) = self.row(variable)?;
-        Ok(row.field(field)?.clone()?)
+        Ok(self.field_at(variable, field)?.clone()?)
     }
 
     /// The key of the row of this name, as a value.
@@ -391,20 +399,34 @@ impl<'a> Env<'a> {
         Ok(Value::Int(key))
     }
 
+    /// The value of a field of an operation's row after it, where it stands.
+    pub(crate) fn field_after(&self, part: u16, field: &str) -> Result<&'a Value, Cause>
+        ensures { outcome (λ v. value v.now) result
+            ≡ model.value_of (environment self.now) (model.new_field part field.now) }
+    {
+        self.part(part)?.new_row()?.field(field)
+    }
+
     /// The value of a field of an operation's row after it.
     pub(crate) fn new_field(&self, part: u16, field: &str) -> Result<Value, Halt>
         ensures { Meets value result (model.value_of (environment self.now) (model.new_field part field.now)) }
     {
-        let v = self.part(part)?.new_row()?.field(field)?;
-        Ok(v.clone()?)
+        Ok(self.field_after(part, field)?.clone()?)
+    }
+
+    /// The value of a field of an operation's row before it, where it stands.
+    pub(crate) fn field_before(&self, part: u16, field: &str) -> Result<&'a Value, Cause>
+        ensures { outcome (λ v. value v.now) result
+            ≡ model.value_of (environment self.now) (model.old_field part field.now) }
+    {
+        self.part(part)?.old_row()?.field(field)
     }
 
     /// The value of a field of an operation's row before it.
     pub(crate) fn old_field(&self, part: u16, field: &str) -> Result<Value, Halt>
         ensures { Meets value result (model.value_of (environment self.now) (model.old_field part field.now)) }
     {
-        let v = self.part(part)?.old_row()?.field(field)?;
-        Ok(v.clone()?)
+        Ok(self.field_before(part, field)?.clone()?)
     }
 
     /// The key of an operation's object, as a value.

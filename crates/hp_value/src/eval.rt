@@ -1,6 +1,7 @@
 //! The value of an expression.
 
-ghost use Rattle.std.specs.Prelude.{Ok};
+ghost use Rattle.std.specs.Prelude.{◌≡◌, IfSome, Ok};
+ghost use Rattle.hp_model.specs.Values.{integer};
 ghost use Rattle.hp_model.specs.Expressions as model;
 ghost use Rattle.hp_model.specs.Expressions.{value_of};
 ghost use Rattle.hp_value.specs.Mapped.{Meets, value, environment, expression, arithmetic, comparison};
@@ -46,6 +47,78 @@ impl Expr {
     }
 }
 
+impl Expr {
+    /// The integer that the expression is, found without a value for each operand. `None` says nothing.
+    #[cycle(integer)]
+    fn integer(&self, env: &Env<'_>) -> Option<i64>
+        ensures { IfSome result (λ z. value_of (environment env.now) (expression self.now) ≡ Ok (integer z)) }
+    {
+        match self {
+            Expr::Constant(constant) => integer_in(constant.value()),
+            Expr::FieldOf { variable, field } => integer_field(env, variable.as_str(), field.as_str()),
+            Expr::NewField { part, field } => integer_after(env, *part, field.as_str()),
+            Expr::OldField { part, field } => integer_before(env, *part, field.as_str()),
+            Expr::Arithmetic(op, a, b) => integer_result(env, *op, a, b),
+            _ => None,
+        }
+    }
+}
+
+/// The integer that a value is, if it is one.
+fn integer_in(given: &Value) -> Option<i64>
+    ensures { IfSome result (λ z. value given.now ≡ integer z) }
+{
+    match given {
+        Value::Int(z) => Some(*z),
+        Value::Bool(_) | Value::Text(_) => None,
+    }
+}
+
+/// The integer that a field of the row of this name is, if it is one.
+fn integer_field(env: &Env<'_>, variable: &str, field: &str) -> Option<i64>
+    ensures { IfSome result (λ z. value_of (environment env.now) (model.field_of variable.now field.now)
+        ≡ Ok (integer z)) }
+{
+    match env.field_at(variable, field) {
+        Ok(given) => integer_in(given),
+        Err(_) => None,
+    }
+}
+
+/// The integer that a field of an operation's row after it is, if it is one.
+fn integer_after(env: &Env<'_>, part: u16, field: &str) -> Option<i64>
+    ensures { IfSome result (λ z. value_of (environment env.now) (model.new_field part field.now) ≡ Ok (integer z)) }
+{
+    match env.field_after(part, field) {
+        Ok(given) => integer_in(given),
+        Err(_) => None,
+    }
+}
+
+/// The integer that a field of an operation's row before it is, if it is one.
+fn integer_before(env: &Env<'_>, part: u16, field: &str) -> Option<i64>
+    ensures { IfSome result (λ z. value_of (environment env.now) (model.old_field part field.now) ≡ Ok (integer z)) }
+{
+    match env.field_before(part, field) {
+        Ok(given) => integer_in(given),
+        Err(_) => None,
+    }
+}
+
+/// The integer that an arithmetic operator gives for two integers.
+#[cycle(integer)]
+fn integer_result(env: &Env<'_>, op: Arithmetic, a: &Expr, b: &Expr) -> Option<i64>
+    ensures { IfSome result (λ z. value_of (environment env.now)
+        (model.arithmetic (arithmetic op) (expression a.now) (expression b.now)) ≡ Ok (integer z)) }
+{
+    let x = a.integer(env)?;
+    let y = b.integer(env)?;
+    match op.calculate(x, y) {
+        Ok(z) => Some(z),
+        Err(_) => None,
+    }
+}
+
 // Operators and constants have functions of their own, which keeps the stack frame of `eval` small: a frame holds the
 // temporaries of all its arms and clears them on entry, whichever arm runs.
 
@@ -67,6 +140,9 @@ fn calculation(
     ensures { Meets value result (value_of (environment env.now)
         (model.arithmetic (arithmetic op) (expression a.now) (expression b.now))) }
 {
+    if let Some(z) = integer_result(env, op, a, b) {
+        return Ok(Value::Int(z));
+    }
     let v = a.eval(alloc, env)?;
     let w = b.eval(alloc, env)?;
     Ok(Value::Int(op.calculate(v.as_int()?, w.as_int()?)?))
@@ -84,6 +160,11 @@ fn comparing(
     ensures { Meets value result (value_of (environment env.now)
         (model.compared (comparison op) (expression a.now) (expression b.now))) }
 {
+    if let Some(x) = a.integer(env) {
+        if let Some(y) = b.integer(env) {
+            return Ok(Value::Bool(op.compare(&Value::Int(x), &Value::Int(y))?));
+        }
+    }
     let v = a.eval(alloc, env)?;
     let w = b.eval(alloc, env)?;
     Ok(Value::Bool(op.compare(&v, &w)?))

@@ -1,0 +1,10 @@
+use Rattle.std.proofs.Common.{ap, arith}
+use Rattle.hp_value.specs.Mapped.{expression}
+use Rattle.hp_value.proofs.Sizes.{operators}
+use Rattle.hp_value.proofs.+integer.Goals as goal
+
+-- each operand has fewer operators than the whole
+
+pub expr::Expr::integer-integer_result-requires : goal.expr::Expr::integer-integer_result-requires
+expr::Expr::integer-integer_result-requires t c =
+    (omega (arith, ap (λ e. operators (expression e)) c.in-Arithmetic.is, ap (λ e. operators (expression e)) c.deref-in-Arithmetic.ensures, ap (λ e. operators (expression e)) c.deref.ensures), tt)
