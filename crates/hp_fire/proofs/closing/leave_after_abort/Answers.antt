@@ -6,7 +6,6 @@ use Rattle.hp_model.specs.Soundness.{Answer}
 use Rattle.hp_model.specs.Transactions.{survivors}
 use Rattle.hp_model.specs.Answers.{is_done, queued_at, detached_at}
 use Rattle.hp_rule.specs.Mapped.{task, detached}
-use Rattle.hp_fire.specs.Mapped.{course}
 use Rattle.hp_fire.proofs.Adding.{queued_undone, detached_undone}
 use Rattle.hp_fire.proofs.closing.leave_after_abort.Goals as goal
 
