@@ -1,7 +1,7 @@
 #!/usr/bin/env python3
 """Measures a rule base that stays up, and prints the tables of bench/README.md on it.
 
-    bench/live.py HIPAC_LIVE HIPAC [--times N] [--lines N] [--objects N] [--trips N]
+    bench/live.py HIPAC_LIVE HIPAC [--times N] [--lines N] [--objects N] [--orders N] [--trips N]
 
 HIPAC_LIVE and HIPAC are the proved programs, which `./build` makes. Each line is a transaction of one update, on which
 one rule fires to keep a sum. All commands of a table run alternately, N times (5), so that the load of the machine
@@ -10,12 +10,14 @@ affects all of them, and the table has their median times.
 The first table has the time of a line (1,000,000 of them) by a pipe; of the same units in scripts of at most 1 MiB; and
 of the same updates, one statement for each line by a pipe, in sqlite3 with a trigger over an in-memory database. The
 second one has the memory of hipac_live after a hundredth of the lines and after all of them. The third one has the
-memory that each of 1,000,000 objects of one field takes. The fourth one has the time from a line to its answer (the
-median of 10,000) for a client in Python by two pipes, beside that of a program in C which only sends each line back;
-gcc makes it.
+memory that each of 1,000,000 objects of one field takes. The fourth one has the time of an order by a line (100,000 of
+them) at an order desk of five rules, with 1,000 objects and with 1,000,000. The fifth one has the time from a line to
+its answer (the median of 10,000) for a client in Python by two pipes, beside that of a program in C which only sends
+each line back; gcc makes it.
 """
 
 import argparse
+import json
 import os
 import shutil
 import statistics
@@ -24,6 +26,7 @@ import sys
 import tempfile
 import time
 
+from costs import CUSTOMERS, ITEMS, ORDERS, desk_orders, desk_rules
 from measuring import SQLITE, heading
 from scripts import ACCOUNT, add, create, immediate, installs, script
 
@@ -197,6 +200,35 @@ def print_objects(given):
     client.close()
 
 
+def line_of(statements):
+    return json.dumps(["tx", statements], separators=(",", ":")) + "\n"
+
+
+def desk_lines(size, orders):
+    """The script of an order desk, lines that create so many items and as many customers, and so many orders. None is
+    refused."""
+    rules, step = desk_rules(), IN_LINE // 2
+    yield script([CUSTOMERS, ITEMS, ORDERS], rules, [["tx", installs(rules)]]) + "\n"
+    for first in range(0, size, step):
+        keys = range(first, min(first + step, size))
+        yield line_of([["create", "customer", key, [["most", 10**9], ["owed", 0]]] for key in keys])
+        yield line_of([["create", "item", key, [["stock", 10**9], ["price", key % 50 + 1]]] for key in keys])
+    for number, customer, item, quantity in desk_orders(size, orders):
+        fields = [["customer", customer], ["item", item], ["qty", quantity]]
+        yield line_of([["create", "orders", number, fields]])
+
+
+def print_orders(given, folder):
+    heading(["Objects", "us an order by a line"])
+    for size in (500, given.objects // 2):
+        paths = [write(folder, f"desk-{size}-{orders}", desk_lines(size, orders)) for orders in (0, given.orders)]
+        taken = []
+        for _ in range(given.times):
+            without, whole = (timed([given.live], [path])[0] for path in paths)
+            taken.append((whole - without) / given.orders)
+        print(f"| {2 * size:,} | {statistics.median(taken) * 1e6:.1f} |", flush=True)
+
+
 def middle_trip(client, trips):
     """The median time from a line to its answer."""
     taken = []
@@ -231,6 +263,7 @@ def main():
     words.add_argument("--times", type=int, default=5, help="how often each command runs")
     words.add_argument("--lines", type=int, default=1_000_000, help="how many lines are sent, 100 or more")
     words.add_argument("--objects", type=int, default=1_000_000, help=f"how many objects are held, {IN_LINE:,} or more")
+    words.add_argument("--orders", type=int, default=100_000, help="how many orders are sent")
     words.add_argument("--trips", type=int, default=10_000, help="how many lines are sent each after the answer before")
     given = words.parse_args()
     for name in ("sqlite3", "gcc"):
@@ -246,6 +279,8 @@ def main():
         print_memory(given)
         print()
         print_objects(given)
+        print()
+        print_orders(given, folder)
         print()
         print_trips(given, folder, own)
 

@@ -20,7 +20,7 @@ use Rattle.hp_fire.specs.Mapped.{end}
 use Rattle.hp_fire.specs.Runs.{Runs, Appends, Adds}
 use Rattle.hp_fire.proofs.Steps.{runs_answer}
 
--- what was added is so for another reason
+-- what was added has another property, too
 pub appends_as : {P Q : Answer → Type 0} {before after : Answer} → ((a : Answer) → P a → Q a) → Appends P before after → Appends Q before after
 appends_as f p = record { answer = p.answer; is = f p.answer p.is; added = p.added }
 

@@ -30,11 +30,11 @@ pub record IsAround (around : Around) (outer : Answer) : Type 0 where
   pub queued : around.queued ≡ length outer.queued
   pub detached : around.detached ≡ length outer.detached
 
--- the answer now, in which a nested transaction began, whose own answer is a
+-- the answer now: a nested transaction began in it, and a is what that has done
 pub record IsPart (around : Around) (outer a now : Answer) : Type 0 where
   pub begun : IsAround around outer
   pub is : now ≡ followed (opened outer) a
 
--- the same with the tasks alone that the nested transaction leaves
+-- the same, with no tasks of the nested transaction but those that it leaves
 abbrev pub leaving : Answer → Answer → Answer
 leaving outer a = record { end = a.end; queued = outer.queued ++ queued_at a.end a.queued; detached = outer.detached ++ detached_at a.end a.detached; items = a.items }

@@ -38,7 +38,7 @@ pub record RunsGroup (library : Library) (group : State → Siblings) (old new :
 
 -- ---- what calls add to a course
 
--- an answer that is so was added to the one before
+-- the answer after is the one before, followed by an answer that has this property
 pub record Appends (is_so : Answer → Type 0) (before after : Answer) : Type 0 where
   pub answer : Answer
   pub is : is_so answer

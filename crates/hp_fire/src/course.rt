@@ -45,10 +45,10 @@ pub struct Course {
     pub items: Vec<Item>,
 }
 
-/// A course when a nested transaction began in it.
+/// What is kept of a course while a nested transaction runs in it.
 #[derive(Drop)]
 pub(crate) struct Around {
-    /// Its items, which aren't in it until the nested transaction ends.
+    /// The items that it had, which are put back when the nested transaction ends.
     pub(crate) items: Vec<Item>,
     /// How many tasks it had queued.
     pub(crate) queued: usize,
@@ -138,7 +138,7 @@ impl Course {
         self.end = how;
     }
 
-    /// Adds an item, after which the course is done so far. After an error no item was added.
+    /// Adds an item to a course, which nothing has ended then. After an error no item was added.
     pub(crate) fn add(&mut self, item: Item) -> Result<(), AllocError>
         ensures { OnOk result (course self.new ≡ followed (course self.old) (tells (before item no_items))) }
     {
@@ -156,7 +156,7 @@ impl Course {
         Ok(())
     }
 
-    /// The outcome of the one firing that is the course.
+    /// The outcome of a firing, where the course has that firing and nothing else.
     pub(crate) fn into_outcome(self) -> Outcome
         ensures { (f : FiringAnswer) → course self ≡ alone f → firing result ≡ f }
     {
@@ -196,8 +196,8 @@ impl Course {
     }
 }
 
-/// Gives an empty list just the room that most need, since a report keeps it: an operation and the firing that it sets
-/// off.
+/// Reserves two places in an empty list. Most lists have an operation and the firing that it sets off, and a report
+/// keeps the list, so there are no more.
 fn make_room(items: &mut Vec<Item>) -> Result<(), AllocError>
     ensures items { items.new.items ≡ items.old.items }
 {

@@ -12,7 +12,7 @@ use crate::course::{Course, End};
 use hp_value::Halt;
 use std::alloc::AllocError;
 
-/// Ends a course with the cause that ended its last statement before it did anything, if one did.
+/// If a cause ended a statement before it had any effect, ends the course with that cause.
 pub(crate) fn or_aborted(course: &mut Course, given: Result<(), Halt>) -> Result<(), AllocError>
     ensures { OnOk result ((library : Library) (work : Work) (old new : Seeing) (before : Answer)
         → Steps library work old new before (course_in course.old) given

@@ -278,8 +278,8 @@ pub(crate) fn emit(
     Ok(())
 }
 
-/// Adds the operation that an occurrence is to a course, which then is done so far. An occurrence that isn't an
-/// operation adds nothing.
+/// Adds an occurrence's operation to a course, which nothing has ended then. An occurrence that isn't an operation adds
+/// nothing.
 pub(crate) fn add_operation(course: &mut Course, prim: Prim) -> Result<(), AllocError>
     ensures { OnOk result (course_in course.new
         ≡ followed (course_in course.old) (tells (without_detachments (operation_items (primitive prim))))) }
