@@ -28,6 +28,17 @@ fn fault(cause: Cause) -> Result<Value, Halt> {
 }
 
 fn shows(rt: &impl Abort, alloc: Global, env: &Env<'_>, e: &Expr, want: Result<Value, Halt>) {
+    match &want {
+        Ok(value) => {
+            assert_eq!(rt; e.boolean(env), value.as_bool());
+            assert_eq!(rt; e.integer(env), value.as_int());
+        }
+        Err(Halt::Cause(cause)) => {
+            assert_eq!(rt; e.boolean(env), Err(*cause));
+            assert_eq!(rt; e.integer(env), Err(*cause));
+        }
+        Err(Halt::Memory) => {}
+    }
     assert_eq!(rt; e.eval(alloc, env), want);
 }
 

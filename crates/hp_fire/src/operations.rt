@@ -113,7 +113,7 @@ impl<W> Engine<'_, W> {
         ensures { let statement = rules.delete class (expression key.now) in
             OperationIsMade self.now.lib.now context.now statement view.old view.new result }
     {
-        let key = integer(self.alloc, &context.env, key)?;
+        let key = integer(&context.env, key)?;
         delete(self.alloc, view, class, key)
     }
 
@@ -216,7 +216,7 @@ impl<W> Engine<'_, W> {
             model.integer_value (context_in context.now).environment (expression key.now) ≡ Ok k →
             AddsReads (IsReadOf (object_cell class k)) view.old.reads view.new.reads }
     {
-        let key = integer(self.alloc, &context.env, key)?;
+        let key = integer(&context.env, key)?;
         match find_object(self.alloc, view, class, key)? {
             Some(row) => Ok(KeyedRow { key, row }),
             None => Err(Halt::Cause(Cause::Missing)),
@@ -225,19 +225,17 @@ impl<W> Engine<'_, W> {
 }
 
 /// The value of an expression that has to be an integer.
-fn integer(alloc: Global, env: &Env<'_>, expr: &Expr) -> Result<i64, Halt>
+fn integer(env: &Env<'_>, expr: &Expr) -> Result<i64, Halt>
     ensures { Meets (λ k. k) result (model.integer_value (environment env.now) (expression expr.now)) }
 {
-    let value = expr.eval(alloc, env)?;
-    Ok(value.as_int()?)
+    Ok(expr.integer(env)?)
 }
 
 /// Whether the condition of a statement `if` is true.
-pub(crate) fn is_true(alloc: Global, env: &Env<'_>, expr: &Expr) -> Result<bool, Halt>
+pub(crate) fn is_true(env: &Env<'_>, expr: &Expr) -> Result<bool, Halt>
     ensures { Meets (λ b. b) result (boolean_value (environment env.now) (expression expr.now)) }
 {
-    let value = expr.eval(alloc, env)?;
-    Ok(value.as_bool()?)
+    Ok(expr.boolean(env)?)
 }
 
 /// Makes the occurrence of a statement `signal`.

@@ -199,7 +199,7 @@ impl<W: Workers> Engine<'_, W> {
             let statement = rules.when condition (body_in then_body.now) (body_in else_body.now) in
             StatementRuns self.now.lib.now context.now statement view.old view.new course.old course.new result }
     {
-        if is_true(self.alloc, &context.env, condition)? {
+        if is_true(&context.env, condition)? {
             self.statements(view, then_body, context, course)?;
             Ok(())
         } else {

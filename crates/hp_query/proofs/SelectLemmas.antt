@@ -5,12 +5,9 @@ use Rattle.hp_model.specs.Values.{Name, KeyedRow, Cause, Outcome, ◌>>=◌}
 use Rattle.hp_model.specs.Expressions.{Expression, Environment, bound, as_boolean, value_of}
 use Rattle.hp_model.specs.Firing.{boolean_value}
 use Rattle.hp_model.specs.Conditions.{selected}
-use Rattle.hp_value.specs.declared.halt.Halt.{Halt}
-use Rattle.hp_value.specs.declared.halt.Halt.TheVariants.{Memory, Cause as ByCause}
 use Rattle.hp_value.specs.declared.row.KeyedRow.{KeyedRow as RustRow}
-use Rattle.hp_value.specs.Mapped.{Meets, cause, keyed_row}
+use Rattle.hp_value.specs.Mapped.{keyed_row}
 use Rattle.hp_query.specs.Candidates.{counted}
-use Rattle.hp_query.specs.Mapped.{keyed_rows}
 
 -- the value of a predicate at a row
 abbrev pub test : Environment → Name → Expression → KeyedRow → Outcome Bool
@@ -74,13 +71,8 @@ module _ (env : Environment) (x : Name) (predicate : Expression) (all : List Key
       ap (with_front front) (sym (bind_ok (selected env x predicate rest)) ∙ sym (selected-cons env x predicate r rest (Ok false) (sym holds))) ∙ left
 
   -- the first fault is the whole's
-  left_fault : (r : KeyedRow) (rest front : List KeyedRow) (c : Cause) → IsLeft env x predicate all (r ∷ rest) front → Err c ≡ test env x predicate r → Err c ≡ selected env x predicate all
+  pub left_fault : (r : KeyedRow) (rest front : List KeyedRow) (c : Cause) → IsLeft env x predicate all (r ∷ rest) front → Err c ≡ test env x predicate r → Err c ≡ selected env x predicate all
   left_fault r rest front c left faults = ap (with_front front) (sym (selected-cons env x predicate r rest (Err c) (sym faults))) ∙ left
-
-  pub left_halt : (r : KeyedRow) (rest front : List KeyedRow) (halt : Halt) → IsLeft env x predicate all (r ∷ rest) front → Meets {A = Bool} {B = Bool} (λ b. b) (Err halt) (test env x predicate r)
-      → Meets keyed_rows (Err halt) (selected env x predicate all)
-  left_halt r rest front (ByCause c) left faults = left_fault r rest front (cause c) left faults
-  left_halt r rest front Memory left faults = tt
 
   pub left_nothing : (front : List KeyedRow) → IsLeft env x predicate all [] front → Ok front ≡ selected env x predicate all
   left_nothing front left = ap Ok (sym (append-nil front)) ∙ left
@@ -109,13 +101,8 @@ module _ (env : Environment) (x : Name) (predicate : Expression) (all : List Key
   pub counts_none : (r : KeyedRow) (rest : List KeyedRow) {count : ℕ} → Counts (r ∷ rest) count → Ok false ≡ test env x predicate r → Counts rest count
   counts_none r rest counts holds = record { front = counts.front; len = counts.len; is_left = left_dropped r rest counts.front counts.is_left holds }
 
-  counts_fault : (c : Cause) → Err c ≡ selected env x predicate all → Err c ≡ counted (selected env x predicate all)
-  counts_fault c is = ap counted is
-
-  pub counts_halt : (r : KeyedRow) (rest : List KeyedRow) {count : ℕ} (halt : Halt) → Counts (r ∷ rest) count → Meets {A = Bool} {B = Bool} (λ b. b) (Err halt) (test env x predicate r)
-      → Meets {A = ℕ} {B = ℕ} (λ n. n) (Err halt) (counted (selected env x predicate all))
-  counts_halt r rest (ByCause c) counts faults = counts_fault (cause c) (left_fault r rest counts.front (cause c) counts.is_left faults)
-  counts_halt r rest Memory counts faults = tt
+  pub counts_fault : (r : KeyedRow) (rest : List KeyedRow) {count : ℕ} (c : Cause) → Counts (r ∷ rest) count → Err c ≡ test env x predicate r → Err c ≡ counted (selected env x predicate all)
+  counts_fault r rest c counts faults = ap counted (left_fault r rest counts.front c counts.is_left faults)
 
   pub counts_last : {count : ℕ} → Counts [] count → Ok count ≡ counted (selected env x predicate all)
   counts_last counts = ap Ok (sym counts.len) ∙ ap counted (left_nothing counts.front counts.is_left)

@@ -7,7 +7,7 @@ ghost use Rattle.hp_model.specs.Values.{boolean};
 ghost use Rattle.hp_model.specs.State.{Objects};
 ghost use Rattle.hp_model.specs.Firing.{boolean_value};
 ghost use Rattle.hp_model.specs.Conditions as model;
-ghost use Rattle.hp_value.specs.Mapped.{Meets, keyed_row, environment, expression};
+ghost use Rattle.hp_value.specs.Mapped.{Meets, outcome, keyed_row, environment, expression};
 ghost use Rattle.hp_query.specs.ByKey.{first_test, key_asked, key_equated};
 ghost use Rattle.hp_query.specs.Candidates.{counted};
 ghost use Rattle.hp_query.specs.Looks.{ObjectsRise};
@@ -20,7 +20,7 @@ use crate::by_key::asks_key;
 use crate::candidates::{Asked, Candidates, find_candidates};
 use crate::look::Look;
 use crate::part::asked_field;
-use hp_value::{ClassNo, Env, Expr, Halt, KeyedRow, Value};
+use hp_value::{Cause, ClassNo, Env, Expr, Halt, KeyedRow, Value};
 use std::alloc::{AllocError, Global};
 
 /// A query: the rows of a class for which a predicate is true. HiPAC's conditions are lists of queries.
@@ -144,7 +144,7 @@ pub(crate) fn count_answer<L: Look>(
     if found.are_selected() {
         return Ok(found.rows().len());
     }
-    count_selected(alloc, &asked, found.rows())
+    Ok(count_selected(&asked, found.rows())?)
 }
 
 /// Whether a predicate is the constant `true`.
@@ -159,13 +159,13 @@ pub(crate) fn is_always_true(predicate: &Expr) -> bool
 }
 
 /// The number of the given objects for which a predicate is true.
-fn count_selected(alloc: Global, asked: &Asked<'_>, objects: &[KeyedRow]) -> Result<usize, Halt>
-    ensures { Meets (λ n. n) result (counted (model.selected (environment asked.now.env.now) asked.now.name.now
-        (expression asked.now.predicate.now) (map keyed_row objects.now))) }
+fn count_selected(asked: &Asked<'_>, objects: &[KeyedRow]) -> Result<usize, Cause>
+    ensures { outcome (λ n. n) result ≡ counted (model.selected (environment asked.now.env.now) asked.now.name.now
+        (expression asked.now.predicate.now) (map keyed_row objects.now)) }
 {
     let mut count = 0;
     for object in objects {
-        if is_selected(alloc, asked, object)? {
+        if is_selected(asked, object)? {
             count += 1;
         }
     }
@@ -179,7 +179,7 @@ fn selected(alloc: Global, asked: &Asked<'_>, objects: &[KeyedRow]) -> Result<Ve
 {
     let mut rows = Vec::new(alloc);
     for object in objects {
-        if is_selected(alloc, asked, object)? {
+        if is_selected(asked, object)? {
             rows.push(object.clone()?).map_err(AllocError::from)?;
         }
     }
@@ -187,11 +187,11 @@ fn selected(alloc: Global, asked: &Asked<'_>, objects: &[KeyedRow]) -> Result<Ve
 }
 
 /// Whether a predicate is true of an object, whose row its name means.
-pub(crate) fn is_selected(alloc: Global, asked: &Asked<'_>, object: &KeyedRow) -> Result<bool, Halt>
-    ensures { Meets (λ b. b) result
-        (boolean_value (bound asked.now.name.now (keyed_row object.now) (environment asked.now.env.now))
-        (expression asked.now.predicate.now)) }
+pub(crate) fn is_selected(asked: &Asked<'_>, object: &KeyedRow) -> Result<bool, Cause>
+    ensures { outcome (λ b. b) result
+        ≡ boolean_value (bound asked.now.name.now (keyed_row object.now) (environment asked.now.env.now))
+        (expression asked.now.predicate.now) }
 {
     let env = asked.env.bound(asked.name, object.key, &object.row);
-    Ok(asked.predicate.eval(alloc, &env)?.as_bool()?)
+    asked.predicate.boolean(&env)
 }

@@ -182,7 +182,7 @@ impl Terms<'_> {
             (tested is_known (expression asked.predicate.now)) (expression self.now.term.now) (option_map value so_far)
             (keyed_row object.now ∷ [])) }
     {
-        if !self.has_term(alloc, object, is_known)? {
+        if !self.has_term(object, is_known)? {
             return Ok(so_far);
         }
         let asked = self.asked;
@@ -192,15 +192,15 @@ impl Terms<'_> {
     }
 
     // Whether an object has a term: the predicate is known to be true of it, or it is.
-    fn has_term(&self, alloc: Global, object: &KeyedRow, is_known: bool) -> Result<bool, Halt>
+    fn has_term(&self, object: &KeyedRow, is_known: bool) -> Result<bool, Cause>
         ensures { let asked = self.now.asked in
-            Meets (λ b. b) result
-            (boolean_value (bound asked.name.now (keyed_row object.now) (environment asked.env.now))
-            (tested is_known (expression asked.predicate.now))) }
+            outcome (λ b. b) result
+            ≡ boolean_value (bound asked.name.now (keyed_row object.now) (environment asked.env.now))
+            (tested is_known (expression asked.predicate.now)) }
     {
         if is_known {
             return Ok(true);
         }
-        is_selected(alloc, &self.asked, object)
+        is_selected(&self.asked, object)
     }
 }

@@ -29,6 +29,8 @@ use Rattle.hp_value.specs.declared.occurrence.Coupling.{Coupling}
 use Rattle.hp_value.specs.declared.occurrence.Coupling.TheVariants.{Immediate, Deferred, Separate, Dependent, Exclusive}
 use Rattle.hp_value.specs.declared.rule_operation.RuleOperation.{RuleOperation}
 use Rattle.hp_value.specs.declared.rule_operation.RuleOperation.TheVariants.{Install, Enable, Disable, Remove}
+use Rattle.hp_value.specs.declared.operand.Operand.{Operand}
+use Rattle.hp_value.specs.declared.operand.Operand.TheVariants.{Int, Bool as Truth, Text}
 use Rattle.hp_value.specs.declared.expr.Arithmetic.{Arithmetic}
 use Rattle.hp_value.specs.declared.expr.Arithmetic.TheVariants.{Plus, Minus, Times, Quotient, Remainder}
 use Rattle.hp_value.specs.declared.expr.Comparison.{Comparison}
@@ -70,6 +72,12 @@ abbrev pub Meets : {A B : Type 0} → (A → B) → Result A Halt → V.Outcome 
 Meets f (Ok x) o = Ok (f x) ≡ o
 Meets f (Err (ByCause c)) o = Err (cause c) ≡ o
 Meets f (Err Memory) o = ⊤
+
+-- a value where it stands
+abbrev pub operand : Operand → V.Value
+operand (Int z) = V.integer z
+operand (Truth b) = V.boolean b
+operand (Text s) = V.text (string_bytes s.now)
 
 abbrev pub cell : Cell → S.Cell
 cell (Object class key) = S.object_cell class key

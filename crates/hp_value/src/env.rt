@@ -1,6 +1,6 @@
 //! The environment of an expression.
 
-use crate::halt::{Cause, Halt};
+use crate::halt::Cause;
 use crate::occurrence::{Occurrence, Primitive};
 use crate::operator::in_range;
 use crate::row::{KeyedRow, Row};
@@ -324,9 +324,10 @@ impl<'a> Env<'a> {
 }
 
 impl<'a> Env<'a> {
-    ghost use Rattle.std.specs.Prelude.{◌≡◌, ◌≢◌, Err};
+    ghost use Rattle.std.specs.Prelude.{◌≡◌};
+    ghost use Rattle.hp_model.specs.Values.{integer};
     ghost use Rattle.hp_model.specs.Expressions as model;
-    ghost use Rattle.hp_value.specs.Mapped.{Meets, outcome, value, primitive, environment};
+    ghost use Rattle.hp_value.specs.Mapped.{outcome, value, primitive, environment};
 
     /// This environment with one more name, which hides outer ones.
     pub fn bound<'b>(&'b self, name: &'b str, key: Key, row: &'b Row) -> Env<'b>
@@ -375,84 +376,87 @@ impl<'a> Env<'a> {
     }
 
     /// The value of a field of the row of this name.
-    pub(crate) fn field_of(&self, variable: &str, field: &str) -> Result<Value, Halt>
-        ensures { Meets value result (model.value_of (environment self.now) (model.field_of variable.now field.now)) }
+    #[inline(never)]
+    pub(crate) fn field_of(&self, variable: &str, field: &str) -> Result<&'a Value, Cause>
+        ensures { outcome (λ v. value v.now) result
+            ≡ model.value_of (environment self.now) (model.field_of variable.now field.now) }
     {
         let (_, row) = self.row(variable)?;
-        Ok(row.field(field)?.clone()?)
+        row.field(field)
     }
 
-    /// The key of the row of this name, as a value.
-    pub(crate) fn key_of(&self, variable: &str) -> Result<Value, Halt>
-        ensures value { Meets value result (model.value_of (environment self.now) (model.key_of variable.now)) }
-        ensures memory { result ≢ Err Halt.Memory }
+    /// The key of the row of this name.
+    pub(crate) fn key_of(&self, variable: &str) -> Result<Key, Cause>
+        ensures { outcome integer result ≡ model.value_of (environment self.now) (model.key_of variable.now) }
     {
         let (key, _) = self.row(variable)?;
-        Ok(Value::Int(key))
+        Ok(key)
     }
 
     /// The value of a field of an operation's row after it.
-    pub(crate) fn new_field(&self, part: u16, field: &str) -> Result<Value, Halt>
-        ensures { Meets value result (model.value_of (environment self.now) (model.new_field part field.now)) }
+    #[inline(never)]
+    pub(crate) fn new_field(&self, part: u16, field: &str) -> Result<&'a Value, Cause>
+        ensures { outcome (λ v. value v.now) result
+            ≡ model.value_of (environment self.now) (model.new_field part field.now) }
     {
-        let v = self.part(part)?.new_row()?.field(field)?;
-        Ok(v.clone()?)
+        self.part(part)?.new_row()?.field(field)
     }
 
     /// The value of a field of an operation's row before it.
-    pub(crate) fn old_field(&self, part: u16, field: &str) -> Result<Value, Halt>
-        ensures { Meets value result (model.value_of (environment self.now) (model.old_field part field.now)) }
+    #[inline(never)]
+    pub(crate) fn old_field(&self, part: u16, field: &str) -> Result<&'a Value, Cause>
+        ensures { outcome (λ v. value v.now) result
+            ≡ model.value_of (environment self.now) (model.old_field part field.now) }
     {
-        let v = self.part(part)?.old_row()?.field(field)?;
-        Ok(v.clone()?)
+        self.part(part)?.old_row()?.field(field)
     }
 
-    /// The key of an operation's object, as a value.
-    pub(crate) fn key_in(&self, part: u16) -> Result<Value, Halt>
-        ensures value { Meets value result (model.value_of (environment self.now) (model.key_in part)) }
-        ensures memory { result ≢ Err Halt.Memory }
+    /// The key of an operation's object.
+    pub(crate) fn key_in(&self, part: u16) -> Result<Key, Cause>
+        ensures { outcome integer result ≡ model.value_of (environment self.now) (model.key_in part) }
     {
-        Ok(Value::Int(self.part(part)?.key()?))
+        self.part(part)?.key()
     }
 
     /// The value of an argument of a signal.
-    pub(crate) fn argument(&self, part: u16, place: u16) -> Result<Value, Halt>
-        ensures { Meets value result (model.value_of (environment self.now) (model.argument part place)) }
+    #[inline(never)]
+    pub(crate) fn argument(&self, part: u16, place: u16) -> Result<&'a Value, Cause>
+        ensures { outcome (λ v. value v.now) result
+            ≡ model.value_of (environment self.now) (model.argument part place) }
     {
-        Ok(self.part(part)?.argument(place)?.clone()?)
+        self.part(part)?.argument(place)
     }
 
-    /// The moment that the clock reached, as a value.
-    pub(crate) fn time_of(&self, part: u16) -> Result<Value, Halt>
-        ensures value { Meets value result (model.value_of (environment self.now) (model.time_of part)) }
-        ensures memory { result ≢ Err Halt.Memory }
+    /// The moment that the clock reached.
+    pub(crate) fn time_of(&self, part: u16) -> Result<i64, Cause>
+        ensures { outcome integer result ≡ model.value_of (environment self.now) (model.time_of part) }
     {
-        Ok(Value::Int(self.part(part)?.moment()?))
+        self.part(part)?.moment()
     }
 
-    /// The occurrence's count, as a value. `NoParameter` means that there is no occurrence.
-    pub(crate) fn count(&self) -> Result<Value, Halt>
-        ensures value { Meets value result (model.value_of (environment self.now) model.occurrence_count) }
-        ensures memory { result ≢ Err Halt.Memory }
+    /// The occurrence's count. `NoParameter` means that there is no occurrence.
+    pub(crate) fn count(&self) -> Result<i64, Cause>
+        ensures { outcome integer result ≡ model.value_of (environment self.now) model.occurrence_count }
     {
         match self.occurrence {
-            Some(o) => Ok(Value::Int(in_range(o.count)?)),
-            None => Err(Halt::Cause(Cause::NoParameter)),
+            Some(o) => in_range(o.count),
+            None => Err(Cause::NoParameter),
         }
     }
 
     /// The value of the `let` of this name. `Kind` means that there is none; a checked expression uses no such name.
-    pub(crate) fn value_of(&self, name: &str) -> Result<Value, Halt>
-        ensures { Meets value result (model.value_of (environment self.now) (model.value_named name.now)) }
+    #[inline(never)]
+    pub(crate) fn value_of(&self, name: &str) -> Result<&'a Value, Cause>
+        ensures { outcome (λ v. value v.now) result
+            ≡ model.value_of (environment self.now) (model.value_named name.now) }
     {
-        let v = self.values.value(name).ok_or(Cause::Kind)?;
-        Ok(v.clone()?)
+        self.values.value(name).ok_or(Cause::Kind)
     }
 
-    /// The clock's moment, as a value.
-    pub(crate) fn moment(&self) -> Result<Value, Halt>
-        ensures { Meets value result (model.value_of (environment self.now) model.time_now) }
+    /// The clock's moment.
+    pub(crate) fn moment(&self) -> Result<i64, Cause>
+        ensures { outcome integer result ≡ model.value_of (environment self.now) model.time_now }
     {
-        Ok(Value::Int(in_range(self.time)?))
+        in_range(self.time)
     }
 }

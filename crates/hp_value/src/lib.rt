@@ -13,6 +13,7 @@ mod expr;
 mod halt;
 mod objects;
 mod occurrence;
+mod operand;
 mod operator;
 mod row;
 mod rule_operation;

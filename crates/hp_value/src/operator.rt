@@ -1,12 +1,13 @@
 //! The operators of expressions.
 
-ghost use Rattle.std.specs.Prelude.{◌≡◌, pos, neg_ℤ};
+ghost use Rattle.std.specs.Prelude.{◌≡◌, Ok, pos, neg_ℤ};
 ghost use Rattle.hp_model.specs.Values.{integer};
 ghost use Rattle.hp_model.specs.Expressions as model;
-ghost use Rattle.hp_value.specs.Mapped.{arithmetic, comparison, outcome, value};
+ghost use Rattle.hp_value.specs.Mapped.{arithmetic, comparison, operand, outcome, value};
 
 use crate::expr::{Arithmetic, Comparison};
 use crate::halt::Cause;
+use crate::operand::Operand;
 use crate::value::Value;
 
 impl Arithmetic {
@@ -44,6 +45,27 @@ impl Comparison {
     /// `Kind` means that the values are of different kinds, or that booleans are ordered.
     pub fn compare(self, v: &Value, w: &Value) -> Result<bool, Cause>
         ensures { outcome (λ b. b) result ≡ model.compare (comparison self) (value v.now) (value w.now) }
+    {
+        self.compare_operands(v.as_operand(), w.as_operand())
+    }
+
+    /// Whether the comparison holds of two integers.
+    pub(crate) fn is_true_of(self, x: i64, y: i64) -> bool
+        ensures { Ok result ≡ model.compare (comparison self) (integer x) (integer y) }
+    {
+        match self {
+            Comparison::Equal => x == y,
+            Comparison::Unequal => x != y,
+            Comparison::Less => x < y,
+            Comparison::AtMost => x <= y,
+            Comparison::Greater => x > y,
+            Comparison::AtLeast => x >= y,
+        }
+    }
+
+    /// Whether the comparison holds of two operands. The cause is that of [`Comparison::compare`].
+    pub(crate) fn compare_operands(self, v: Operand<'_>, w: Operand<'_>) -> Result<bool, Cause>
+        ensures { outcome (λ b. b) result ≡ model.compare (comparison self) (operand v.entry) (operand w.entry) }
     {
         match self {
             Comparison::Equal => v.is_equal(w),

@@ -133,28 +133,4 @@ impl Value {
             _ => Err(Cause::Kind),
         }
     }
-
-    /// Whether two values are equal. `Kind` means that they are of different kinds.
-    pub fn is_equal(&self, other: &Value) -> Result<bool, Cause>
-        ensures { outcome (λ b. b) result ≡ model.is_equal (value self.now) (value other.now) }
-    {
-        match (self, other) {
-            (Value::Int(x), Value::Int(y)) => Ok(x == y),
-            (Value::Bool(x), Value::Bool(y)) => Ok(x == y),
-            (Value::Text(x), Value::Text(y)) => Ok(**x == **y),
-            _ => Err(Cause::Kind),
-        }
-    }
-
-    /// Whether an integer is less than another, or a text precedes another byte by byte. `Kind` means that the values
-    /// are neither two integers nor two texts.
-    pub fn is_below(&self, other: &Value) -> Result<bool, Cause>
-        ensures { outcome (λ b. b) result ≡ model.is_below (value self.now) (value other.now) }
-    {
-        match (self, other) {
-            (Value::Int(x), Value::Int(y)) => Ok(x < y),
-            (Value::Text(x), Value::Text(y)) => Ok(**x < **y),
-            _ => Err(Cause::Kind),
-        }
-    }
 }

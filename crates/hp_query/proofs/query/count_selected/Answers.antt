@@ -2,7 +2,7 @@ use Rattle.std.proofs.Common.{◌≤◌, arith, map, drop, sym, ◌∙◌, ap, s
 use Rattle.std.proofs.Math.ListN.{drop_of_length-le}
 use Rattle.std.proofs.lemmas.Result.{err_from_is_err_and}
 use Rattle.hp_value.specs.Mapped.{keyed_row, environment, expression}
-use Rattle.hp_query.proofs.SelectLemmas.{Counts, counts_at, counts_one, counts_none, counts_halt, counts_last}
+use Rattle.hp_query.proofs.SelectLemmas.{Counts, counts_at, counts_one, counts_none, counts_fault, counts_last}
 use Rattle.hp_query.proofs.query.count_selected.Goals as goal
 use Rattle.hp_query.proofs.query.count_selected.Goals.{then-branch, else-branch}
 
@@ -15,7 +15,7 @@ returns-in_err-is_selected c =
     let object = c.object-item.result in
     let p = err_from_is_err_and c.from_residual.result c.from_residual.ensures.1 in
     let at = counts_at env x predicate all c.args.objects.now c.loop-object.object-index object c.loop-object-test.true c.object-item.is c.loop-object.invariant.counts in
-    rw (p.1, p.2) (counts_halt env x predicate all (keyed_row object) (map keyed_row (drop (c.loop-object.object-index + 1) c.args.objects.now)) _ at c.in_err-is_selected.ensures)
+    rw (p.1, p.2) (counts_fault env x predicate all (keyed_row object) (map keyed_row (drop (c.loop-object.object-index + 1) c.args.objects.now)) _ at c.in_err-is_selected.ensures)
 
 pub loop-object-preserved : goal.loop-object-preserved
 loop-object-preserved c =

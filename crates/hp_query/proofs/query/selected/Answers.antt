@@ -3,7 +3,7 @@ use Rattle.std.proofs.Math.ListN.{drop_of_length-le}
 use Rattle.std.proofs.lemmas.List.{map-append}
 use Rattle.std.proofs.lemmas.Result.{err_from_is_err_and}
 use Rattle.hp_value.specs.Mapped.{keyed_row, environment, expression}
-use Rattle.hp_query.proofs.SelectLemmas.{left_at_first, left_at, left_kept, left_dropped, left_halt, left_nothing, IsLeft}
+use Rattle.hp_query.proofs.SelectLemmas.{left_at_first, left_at, left_kept, left_dropped, left_fault, left_nothing, IsLeft}
 use Rattle.hp_query.proofs.query.selected.Goals as goal
 use Rattle.hp_query.proofs.query.selected.Goals.{then-branch+in_ok-clone+in_ok-map_err, else-branch}
 
@@ -25,7 +25,7 @@ returns-in_err-is_selected c =
     let front = map keyed_row c.loop-object.rows.items in
     let p = err_from_is_err_and c.from_residual.result c.from_residual.ensures.1 in
     let at = left_at env x predicate all c.args.objects.now c.loop-object.object-index object front c.loop-object-test.true c.object-item.is c.loop-object.invariant in
-    rw (p.1, p.2) (left_halt env x predicate all (keyed_row object) (map keyed_row (drop (c.loop-object.object-index + 1) c.args.objects.now)) front _ at c.in_err-is_selected.ensures)
+    rw (p.1, p.2) (left_fault env x predicate all (keyed_row object) (map keyed_row (drop (c.loop-object.object-index + 1) c.args.objects.now)) front _ at c.in_err-is_selected.ensures)
 
 pub loop-object-preserved : goal.loop-object-preserved
 loop-object-preserved c =
