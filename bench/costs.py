@@ -183,6 +183,28 @@ def scan_and_write(objects, rounds=100):
     return Case(objects, rounds, script([ACCOUNT], rules, items), with_rounds)
 
 
+# ---- objects that a condition tests
+
+TESTS = {
+    "one comparison": (["<", ["of", "i", "stock"], ["of", "i", "least"]], "stock < least"),
+    "three operators": (["<", ["*", ["of", "i", "stock"], 3], ["-", ["of", "i", "least"], 9]],
+                        "stock * 3 < least - 9"),
+}
+
+
+def tested_objects(name, objects=4000, rounds=100):
+    """A rule whose query tests each object of a class, since no index serves its predicate. No object passes."""
+    test, sql_test = TESTS[name]
+    classes = [["item", [["stock", "int"], ["least", "int"]]]]
+    rules = [on_go("low", [["i", "item", test]], [["emit", 1]])]
+    begin = installs(rules) + [["create", "item", k, [["stock", k + 10], ["least", k]]] for k in range(objects)]
+    sql = Sql(["create table item(id integer primary key, stock integer, least integer);", "begin;",
+               *[f"insert into item values({k}, {k + 10}, {k});" for k in range(objects)], "commit;"],
+              f"update item set stock = 0 where {sql_test};", [[]] * rounds, ["select sum(stock) from item;"], False)
+    return Case(objects, rounds * objects // 1000, script(classes, rules, [["tx", begin]]),
+                script(classes, rules, [["tx", begin]] + [["tx", [GO]]] * rounds), sql)
+
+
 # Each table: its title, what is counted, and its cases, made when they are run.
 TABLES = {
     "orders": ("an order desk of five rules, items and customers", "order",
@@ -200,4 +222,6 @@ TABLES = {
                [lambda n=n: ("short rules", short_group(n)) for n in (1, 2, 3, 4, 8, 9, 16)]),
     "scans": ("a class that each transaction scans, and one object of which it writes", "transaction",
               [lambda n=n: ("objects", scan_and_write(n)) for n in (1000, 4000)]),
+    "tests": ("objects that a condition tests, and no index serves", "thousand objects",
+              [lambda name=name: (name, tested_objects(name)) for name in TESTS]),
 }

@@ -135,6 +135,8 @@ impl<'a> Names<'a> {
     ghost use Rattle.hp_value.specs.Mapped.{answered_rows, answers};
 
     /// The row that kept answers bind to a name, with its key: the last answer that binds it wins.
+    // Not inlined, so that a lookup of the row that is tested saves few registers.
+    #[inline(never)]
     fn answered(kept: &'a [Answer], name: &str) -> Option<(Key, &'a Row)>
         ensures { option_map (λ r. record { key = r.0; row = r.1.now }) result
             ≡ lookup (bytes_eq name.now) (answered_rows (answers kept.now)) }
