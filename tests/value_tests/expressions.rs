@@ -113,6 +113,20 @@ fn operands_are_evaluated_before_their_kinds_are_tested(rt: HostRuntime) -> Resu
     Ok(())
 }
 
+/// An evaluation that looked for the fault twice at each operator would take 2^60 steps.
+#[test]
+fn a_fault_beneath_many_operators_is_found_at_once(rt: HostRuntime) -> Result<(), Fail> {
+    let mut nested = expression(rt.alloc(), "true")?;
+    for _ in 0..60 {
+        let one = Box::new(rt.alloc(), Expr::literal(Value::Int(1)))?;
+        let sum = Expr::Arithmetic(Arithmetic::Plus, one, nested);
+        nested = Box::new(rt.alloc(), Expr::Negated(Box::new(rt.alloc(), sum)?))?;
+    }
+    let env = Env::new(None, &[], &[], 0);
+    shows(&rt, rt.alloc(), &env, &nested, fault(Cause::Kind));
+    Ok(())
+}
+
 #[test]
 fn and_and_or_evaluate_the_second_operand_only_if_it_matters(rt: HostRuntime) -> Result<(), Fail> {
     is_truth(&rt, rt.alloc(), "false 1 0 / and", false)?;

@@ -91,9 +91,10 @@ impl Expr {
     }
 
     /// The integer that the expression is. `None` means that it has no value, or one that is no integer.
-    // An operand goes from function to function in memory, and an `Option` of an integer in two registers.
-    #[cycle(operand)]
-    fn known_integer<'a>(&'a self, env: &Env<'a>) -> Option<i64>
+    // An operand goes from function to function in memory, and an `Option` of an integer in two registers. This evaluates
+    // no values of other kinds: else a fault beneath many operators would be looked for twice at each of them.
+    #[cycle(known)]
+    fn known_integer(&self, env: &Env<'_>) -> Option<i64>
         ensures { IfSome result (λ z. value_of (environment env.now) (expression self.now) ≡ Ok (integer z)) }
     {
         match self {
@@ -103,21 +104,26 @@ impl Expr {
                 field.as_str(),
             )),
             Expr::NewField { part, field } => found_integer(env.new_field(*part, field.as_str())),
-            Expr::OldField { part, field } => found_integer(env.old_field(*part, field.as_str())),
-            Expr::Argument { part, place } => found_integer(env.argument(*part, *place)),
             Expr::Arithmetic(op, a, b) => known_result(env, *op, a, b),
-            _ => self.other_integer(env),
+            Expr::Negated(a) => known_negation(env, a),
+            _ => self.known_attribute(env),
         }
     }
 
-    // The same, for an expression of another form.
-    #[cycle(operand)]
+    // The same for what is asked more rarely, whose temporaries would make the stack frame larger.
     #[inline(never)]
-    fn other_integer<'a>(&'a self, env: &Env<'a>) -> Option<i64>
+    fn known_attribute(&self, env: &Env<'_>) -> Option<i64>
         ensures { IfSome result (λ z. value_of (environment env.now) (expression self.now) ≡ Ok (integer z)) }
     {
-        match self.operand(env) {
-            Ok(Operand::Int(z)) => Some(z),
+        match self {
+            Expr::KeyOf { variable } => found_number(env.key_of(variable.as_str())),
+            Expr::OldField { part, field } => found_integer(env.old_field(*part, field.as_str())),
+            Expr::KeyIn { part } => found_number(env.key_in(*part)),
+            Expr::Argument { part, place } => found_integer(env.argument(*part, *place)),
+            Expr::TimeOf { part } => found_number(env.time_of(*part)),
+            Expr::Count => found_number(env.count()),
+            Expr::ValueOf { name } => found_integer(env.value_of(name.as_str())),
+            Expr::Now => found_number(env.moment()),
             _ => None,
         }
     }
@@ -164,22 +170,38 @@ fn found_integer(found: Result<&Value, Cause>) -> Option<i64>
     }
 }
 
+// The number that was found. `None` means that nothing was.
+fn found_number(found: Result<i64, Cause>) -> Option<i64>
+    ensures { IfSome result (λ z. outcome integer found ≡ Ok (integer z)) }
+{
+    match found {
+        Ok(z) => Some(z),
+        Err(_) => None,
+    }
+}
+
 // Operators have functions of their own, which keeps the stack frame of `operand` small: a frame holds the temporaries
 // of all its arms and clears them on entry, whichever arm runs.
 
 // The integer that an arithmetic operator gives for two integers. `None` means that it gives none, or that an operand
 // is none.
-#[cycle(operand)]
-fn known_result<'a>(env: &Env<'a>, op: Arithmetic, a: &'a Expr, b: &'a Expr) -> Option<i64>
+#[cycle(known)]
+fn known_result(env: &Env<'_>, op: Arithmetic, a: &Expr, b: &Expr) -> Option<i64>
     ensures { IfSome result (λ z. value_of (environment env.now)
         (model.arithmetic (arithmetic op) (expression a.now) (expression b.now)) ≡ Ok (integer z)) }
 {
     let x = a.known_integer(env)?;
     let y = b.known_integer(env)?;
-    match op.calculate(x, y) {
-        Ok(z) => Some(z),
-        Err(_) => None,
-    }
+    found_number(op.calculate(x, y))
+}
+
+// The negated integer. `None` means that there is none.
+#[cycle(known)]
+fn known_negation(env: &Env<'_>, a: &Expr) -> Option<i64>
+    ensures { IfSome result (λ z. value_of (environment env.now) (model.negated (expression a.now)) ≡ Ok (integer z)) }
+{
+    let x = a.known_integer(env)?;
+    found_number(negated(x))
 }
 
 // The result of an arithmetic operator on two operands.

@@ -34,6 +34,3 @@ expr::Expr::is_true-are_both_true-requires t c = (omega (arith, ap (λ e. operat
 
 pub expr::Expr::is_true-is_either_true-requires : goal.expr::Expr::is_true-is_either_true-requires
 expr::Expr::is_true-is_either_true-requires t c = (omega (arith, ap (λ e. operators (expression e)) c.in-Or.is, ap (λ e. operators (expression e)) c.deref-in-Or.ensures, ap (λ e. operators (expression e)) c.deref-in-Or-2.ensures), tt)
-
-pub expr::Expr::known_integer-known_result-requires : goal.expr::Expr::known_integer-known_result-requires
-expr::Expr::known_integer-known_result-requires t c = (omega (arith, ap (λ e. operators (expression e)) c.in-Arithmetic.is, ap (λ e. operators (expression e)) c.deref-in-Arithmetic.ensures, ap (λ e. operators (expression e)) c.deref.ensures), tt)
