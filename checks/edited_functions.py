@@ -16,7 +16,7 @@ IMPL = re.compile(r"impl(?:<.*?>)? (?:(?P<of>[\w:]+)(?:<.*?>)? for )?(?P<type>[\
 
 
 class Body:
-    """An edit that changes lines of one function alone."""
+    """An edit that changes lines of one function alone, but for functions that it adds."""
 
     def __init__(self, path, file, name, lines):
         self.path, self.file, self.name = path, file, name
@@ -94,9 +94,14 @@ def words(line):
     return set(re.findall(r"\w+", line))
 
 
+def adds_function(old, new):
+    """Whether a line of documentation is changed into a function that stands before it."""
+    return old.startswith("///") and HEAD.match(new) is not None
+
+
 def body_of(path, before, after):
-    """The edit at a path as a change of one function, if it is one. `before` and `after` are the texts of the files
-    that it changes."""
+    """The edit at a path as a change of one function, if it is one. It may add functions for this one to call. `before`
+    and `after` are the texts of the files that it changes."""
     if len(after) != 1:
         return None
     file = next(iter(after))
@@ -104,8 +109,9 @@ def body_of(path, before, after):
     if not file.startswith("src/") or len(old) != len(new):
         return None
     changed = {number: line for number, line in enumerate(new, 1) if old[number - 1] != line}
+    inside = [number for number, line in changed.items() if not adds_function(old[number - 1], line)]
     for name, (first, last) in functions(before[file]):
-        if all(first <= number <= last for number in changed):
+        if inside and all(first <= number <= last for number in inside):
             body = Body(path, file, name, (first, last))
             body.place = place_of(file, before[file], first, name)
             body.changed = changed

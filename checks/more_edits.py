@@ -46,12 +46,15 @@ CRATES = repo.crates()
 UNTRIED = "# untried"
 
 # What an edit can come to. The second: the only complaints are of a proof file that names what the edit took away, so
-# that no contract was tried. The third: `search` found no proof within its limits, and the contract may still hold.
+# that no contract was tried. The third: `search` found no proof within its limits, and the contract may still hold. A
+# bad edit doesn't apply, or makes a text that can't be read. One isn't judged if the check tried no contract, as where
+# memory ran out.
 REFUSED = "refused"
 BY_NAME = "only refused since a proof names what it took away"
 AT_LIMIT = "only refused at a limit of search"
 PROVED = "NOT REFUSED"
 BAD = "bad"
+NOT_JUDGED = "not judged"
 NOT_TRIED = "not tried"
 
 # A complaint of the prover, with its file, the definition that it is of, if any, and its words.
@@ -376,7 +379,7 @@ def came_to(status, lines, changed):
     if status == 0:
         return PROVED, "the crate is still proved"
     if not is_judged(status, lines):
-        return BAD, next((line for line in lines if "error" in line), lines[-1])
+        return NOT_JUDGED, next((line for line in lines if "error" in line), lines[-1])
     shown = complaints(lines) + [line for line in lines if UNPROVED.match(line) and not COMPLAINT.match(line)]
     shown += [line for line in lines if SEARCHED.match(line) or ENDLESS.match(line)]
     if shown:
@@ -386,7 +389,7 @@ def came_to(status, lines, changed):
     if told:
         return BY_NAME, told[0]
     # (as where the borrow checker doesn't cover the function: no contract was tried)
-    return BAD, next((line for line in lines if NO_PROOF.match(line)), lines[-1])
+    return NOT_JUDGED, next((line for line in lines if NO_PROOF.match(line)), lines[-1])
 
 
 class Room:

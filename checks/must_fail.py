@@ -12,11 +12,11 @@ that they call, and at nothing else: each function is proved against the contrac
 the prover complains of the function that it changes. What that doesn't show to be refused is then tried alone, in a
 check of the whole crate, as is an edit of a definition.
 
-An edit isn't counted as refused if the prover complains only of a proof that names what the edit took away, or of a
-search that ended at a limit, or if it can't read the edit: then no contract was shown to fail. As many crates are tried
-side by side as there are processors, and memory for them, quick ones first. With --until no check begins after that
-moment of the system's monotonic clock, in seconds, and the edits that are left are told. The last line is 'N passed, M
-failed': an edit has failed if the crate is still proved with it.
+An edit has failed if the crate is still proved with it, if the prover can't read it, or if the prover complains only of
+a proof that names what the edit took away: then no contract was tried. It isn't counted if a search only ended at a
+limit, or if the check itself ended before. As many crates are tried side by side as there are processors, and memory
+for them, quick ones first. With --until no check begins after that moment of the system's monotonic clock, in seconds,
+and the edits that are left are told. The last line is 'N passed, M failed'.
 """
 
 import argparse
@@ -33,7 +33,7 @@ import time
 
 from edited_functions import texts_with, together, unique_names
 from harness import repo
-from more_edits import BAD, NOT_TRIED, PROVED, REFUSED
+from more_edits import BAD, BY_NAME, NOT_TRIED, PROVED, REFUSED
 from more_edits import came_to, edited, edited_body, refused_of, text_of, with_their_ends
 
 # The status of a check that is asked for a function that isn't there, or for a name that several have.
@@ -43,6 +43,9 @@ PROCESSORS = len(os.sched_getaffinity(0))
 
 # The memory, in kB, that must be free when a check begins: each takes up to 4 GB.
 FREE_MEMORY = 8_000_000
+
+# What an edit must not come to.
+FAILED = (PROVED, BAD, BY_NAME)
 
 # How many crates are named whose edits took longest.
 LONGEST = 12
@@ -185,13 +188,13 @@ class Tries:
 
 
 def tell(tries):
-    """Prints what the edits of a crate came to. Gives how many were refused, and with how many it is still proved."""
+    """Prints what the edits of a crate came to. Gives how many were refused, and how many failed."""
     for path, (kind, shown) in sorted(tries.found.items()):
-        head = "FAILED " if kind == PROVED else "" if kind == REFUSED else "not counted: "
+        head = "FAILED " if kind in FAILED else "" if kind == REFUSED else "not counted: "
         print(f"{head}{tries.crate}/{os.path.basename(path)[: -len('.edit')]}: {kind}: {shown.strip()[:200]}")
     kinds = [kind for kind, _ in tries.found.values()]
     print(f"{tries.crate}: {kinds.count(REFUSED)} of {len(kinds)} refused, {tries.seconds:.0f} seconds", flush=True)
-    return kinds.count(REFUSED), kinds.count(PROVED)
+    return kinds.count(REFUSED), sum(kinds.count(kind) for kind in FAILED)
 
 
 def give_way():
