@@ -13,9 +13,11 @@ import signal
 import subprocess
 import sys
 import tempfile
+import threading
 import time
 
 from harness import LIMIT, TOP, expect, run_checks
+import running
 
 # The scripts that the parts run. Each fake one says what the notes' file of its name has, and ends with the status on
 # the first line of it. (A word ends it by a signal.)
@@ -321,15 +323,25 @@ def ends_its_parts(tree):
     """An interrupt ends the parts at work, and the run has failed."""
     tree.write("checks/conditions.py", "#!/bin/sh\nsleep 300 & wait\n", 0o755)
     how = {"stdout": subprocess.PIPE, "stderr": subprocess.STDOUT, "text": True, "start_new_session": True}
-    running = subprocess.Popen(["./test", "conditions"], **how, **tree.how)
+    testing = subprocess.Popen(["./test", "conditions"], **how, **tree.how)
     deadline = time.monotonic() + LIMIT
     while not os.path.exists(os.path.join(tree.top, ".built", "test", "conditions.log")):
         expect(time.monotonic() < deadline, True, "whether the part begins in time")
         time.sleep(0.1)
     time.sleep(1)
-    running.send_signal(signal.SIGINT)
-    said = running.communicate(timeout=LIMIT)[0]
-    expect((running.returncode, said.splitlines()[-1]), (1, "1 passed, 1 failed"), said)
+    testing.send_signal(signal.SIGINT)
+    said = testing.communicate(timeout=LIMIT)[0]
+    expect((testing.returncode, said.splitlines()[-1]), (1, "1 passed, 1 failed"), said)
+
+
+def leaves_the_status(_tree):
+    """What ends a command leaves its status for the thread that waits for it, however late that does."""
+    command = running.start(["sh", "-c", "sleep 300 & wait"], start_new_session=True)
+    ending = threading.Thread(target=lambda: running.stop_group(command))
+    ending.start()
+    ending.join(LIMIT)
+    running.wait_and_measure(command)
+    expect(command.returncode, -signal.SIGTERM, "status")
 
 
 def missing_program(_tree):
@@ -354,6 +366,7 @@ CHECKS = (
     catches_edits,
     proves_a_copy,
     ends_its_parts,
+    leaves_the_status,
     missing_program,
 )
 

@@ -5,11 +5,15 @@ from __future__ import annotations
 import os
 import signal
 import subprocess
+import time
 from collections.abc import Iterator
 from typing import Any
 
 # The time limit for a command to end its children, in seconds.
 STOP_LIMIT = 30
+
+# Seconds between two looks at whether a command has ended.
+PAUSE = 0.05
 
 
 def start(words: list[str], **how: Any) -> subprocess.Popen:
@@ -42,11 +46,21 @@ def stop(running: subprocess.Popen) -> None:
             running.wait()
 
 
+def has_ended(running: subprocess.Popen) -> bool:
+    """Whether a command has ended. Its status is left for the thread that waits for it."""
+    try:
+        return os.waitid(os.P_PID, running.pid, os.WEXITED | os.WNOHANG | os.WNOWAIT) is not None
+    except ChildProcessError:
+        return True
+
+
 def stop_group(running: subprocess.Popen) -> None:
     """Ends a command that has a session of its own, and all that it started."""
     for number in (signal.SIGTERM, signal.SIGKILL):
         try:
             os.killpg(running.pid, number)
-            running.wait(STOP_LIMIT)
-        except (ProcessLookupError, subprocess.TimeoutExpired):
-            continue
+        except ProcessLookupError:
+            return
+        limit = time.monotonic() + STOP_LIMIT
+        while not has_ended(running) and time.monotonic() < limit:
+            time.sleep(PAUSE)

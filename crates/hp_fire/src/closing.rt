@@ -98,8 +98,8 @@ fn after_abort(d: Detached) -> Option<Detached>
     }
 }
 
-/// Ends a nested transaction that began in a course, which then ends as `after` says: adds its node, and keeps the tasks
-/// that it leaves queued and detached. After an error the course is only to be dropped.
+/// Ends a nested transaction that began in a course, which then ends as `after` says: adds its node, and keeps the
+/// tasks that it leaves queued and detached. After an error the course is only to be dropped.
 pub(crate) fn end_part(
     alloc: Global,
     course: &mut Course,
@@ -176,8 +176,8 @@ impl<W> Engine<'_, W> {
     }
 }
 
-/// Ends the body of a statement `sub`, which began at a mark of the view and in this course. Says whether it aborted, so
-/// that the other body follows. A veto passes outward.
+/// Ends the body of a statement `sub`, which began at a mark of the view and in this course. Says whether it aborted,
+/// so that the other body follows. A veto passes outward.
 pub(crate) fn close_sub(
     alloc: Global,
     view: &mut View,

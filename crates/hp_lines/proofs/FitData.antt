@@ -225,4 +225,5 @@ root_fits d root h e =
     else None) (member_count d) root e in
     members_of (get (codes "version") d) (get (codes "depth") d) (get (codes "classes") d) (get (codes "rules") d) (get (codes "items") d) root
     (λ x is. get_fits (codes "rules") d x h is) (λ x is. get_fits (codes "items") d x h is)
-    (tested (c.0 == wanted_count (get (codes "depth") d)) (root_members (get (codes "version") d) (get (codes "depth") d) (get (codes "classes") d) (get (codes "rules") d) (get (codes "items") d)) root c.2).1
+    (tested (c.0 == wanted_count (get (codes "depth") d))
+    (root_members (get (codes "version") d) (get (codes "depth") d) (get (codes "classes") d) (get (codes "rules") d) (get (codes "items") d)) root c.2).1

@@ -149,13 +149,16 @@ of_two word a b x h k e =
     (λ y is. or_fits ExpressionFormFits (option_map (λ op. X.comparison_form op a b) (comparison_of word)) (other_form_of_two word a b) y
     (λ z at. map_fits ExpressionFormFits (λ op. X.comparison_form op a b) (comparison_of word) z (λ op. (h, k)) at)
     (λ z at. beside_fits ExpressionFormFits word
-    ((codes "and", X.both_form a b) ∷ (codes "or", X.either_form a b) ∷ (codes "of", X.field_form a b) ∷ (codes "new", X.new_form a b) ∷ (codes "old", X.old_form a b) ∷ (codes "arg", X.argument_form a b) ∷ [])
+    ((codes "and", X.both_form a b) ∷ (codes "or", X.either_form a b) ∷ (codes "of", X.field_form a b) ∷ (codes "new", X.new_form a b) ∷
+    (codes "old", X.old_form a b) ∷ (codes "arg", X.argument_form a b) ∷ [])
     z at ((h, k), ((h, k), (tt, (tt, (tt, (tt, tt))))))) is) e
 
 common : (word : List ℕ) (parts : List Data) (x : ExpressionForm) → AllFit parts → common_form word parts ≡ Some x → ExpressionFormFits x
 common word [] x h e = if_fits ExpressionFormFits (bytes_eq word (codes "count")) (Some X.count_form) x (λ y is. some_fits ExpressionFormFits X.count_form y is tt) e
 common word (a ∷ []) x h e =
-    beside_fits ExpressionFormFits word ((codes "neg", X.negated_form a) ∷ (codes "not", X.inverted_form a) ∷ (codes "key", X.key_form a) ∷ (codes "id", X.key_in_form a) ∷ (codes "time", X.time_form a) ∷ []) x e (h.0, (h.0, (tt, (tt, (tt, tt)))))
+    beside_fits ExpressionFormFits word
+    ((codes "neg", X.negated_form a) ∷ (codes "not", X.inverted_form a) ∷ (codes "key", X.key_form a) ∷ (codes "id", X.key_in_form a) ∷
+    (codes "time", X.time_form a) ∷ []) x e (h.0, (h.0, (tt, (tt, (tt, tt)))))
 common word (a ∷ b ∷ []) x h e = of_two word a b x h.0 h.1.0 e
 common word (a ∷ b ∷ c ∷ parts) x h e = cc
 

@@ -131,9 +131,11 @@ common_statements : (word : List ℕ) (parts : List Data) (x : StatementForm) �
 common_statements word [] x h e = beside_fits StatementFormFits word ((codes "abort", G.abort_form) ∷ (codes "veto", G.veto_form) ∷ []) x e (tt, (tt, tt))
 common_statements word (a ∷ []) x h e =
     beside_fits StatementFormFits word
-    ((codes "emit", G.emit_form a) ∷ (codes "install", G.rule_form install a) ∷ (codes "enable", G.rule_form enable a) ∷ (codes "disable", G.rule_form disable a) ∷ (codes "remove", G.rule_form remove a) ∷ (codes "fire", G.fire_form a) ∷ []) x e (h.0, (tt, (tt, (tt, (tt, (tt, tt))))))
+    ((codes "emit", G.emit_form a) ∷ (codes "install", G.rule_form install a) ∷ (codes "enable", G.rule_form enable a) ∷
+    (codes "disable", G.rule_form disable a) ∷ (codes "remove", G.rule_form remove a) ∷ (codes "fire", G.fire_form a) ∷ []) x e (h.0, (tt, (tt, (tt, (tt, (tt, tt))))))
 common_statements word (a ∷ b ∷ []) x h e =
-    beside_fits StatementFormFits word ((codes "delete", G.delete_form a b) ∷ (codes "signal", G.signal_form a b) ∷ (codes "for", G.for_form a b) ∷ (codes "sub", G.sub_form a b) ∷ []) x e (h.1.0, (h.1.0, (h.1.0, ((h.0, h.1.0), tt))))
+    beside_fits StatementFormFits word
+    ((codes "delete", G.delete_form a b) ∷ (codes "signal", G.signal_form a b) ∷ (codes "for", G.for_form a b) ∷ (codes "sub", G.sub_form a b) ∷ []) x e (h.1.0, (h.1.0, (h.1.0, ((h.0, h.1.0), tt))))
 common_statements word (a ∷ b ∷ c ∷ []) x h e =
     beside_fits StatementFormFits word ((codes "create", G.create_form a b c) ∷ (codes "update", G.update_form a b c) ∷ (codes "if", G.if_form a b c) ∷ []) x e
     ((h.1.0, h.1.1.0), ((h.1.0, h.1.1.0), ((h.0, h.1.0, h.1.1.0), tt)))

@@ -91,8 +91,9 @@ impl Expr {
     }
 
     /// The integer that the expression is. `None` means that it has no value, or one that is no integer.
-    // An operand goes from function to function in memory, and an `Option` of an integer in two registers. This evaluates
-    // no values of other kinds: else a fault beneath many operators would be looked for twice at each of them.
+    // An operand goes from function to function in memory, and an `Option` of an integer in two registers. This
+    // evaluates no values of other kinds: else a fault beneath many operators would be looked for twice at each of
+    // them.
     #[cycle(known)]
     fn known_integer(&self, env: &Env<'_>) -> Option<i64>
         ensures { IfSome result (λ z. value_of (environment env.now) (expression self.now) ≡ Ok (integer z)) }

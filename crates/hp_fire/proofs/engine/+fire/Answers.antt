@@ -269,26 +269,30 @@ pub Engine::statement-returns-in-Create : goal.Engine::statement-returns-in-Crea
 Engine::statement-returns-in-Create g t c =
     let is : R.create c.in-Create.class (expression c.deref.result.now) (map assignment c.deref-in-Create.result.now) ≡ statement c.args.stmt.now = search (rules, the_lemmas) in
     steps_at (library c.args.self.now.lib.now) (level_at (library c.args.self.now.lib.now) c.args.context.now.env.time c.args.context.now.depth)
-    (context c.args.context.now) c.args.view.now c.signal_event.new.view (course c.args.course.now) (course c.signal_event.new.course) c.signal_event.result is (c.signal_event.ensures _ c.args.view.now c.create_object.ensures)
+    (context c.args.context.now) c.args.view.now c.signal_event.new.view (course c.args.course.now) (course c.signal_event.new.course)
+    c.signal_event.result is (c.signal_event.ensures _ c.args.view.now c.create_object.ensures)
 
 pub Engine::statement-returns-in-Update : goal.Engine::statement-returns-in-Update
 Engine::statement-returns-in-Update g t c =
     let is : R.update c.in-Update.class (expression c.deref-in-Update.result.now) (map assignment c.deref-in-Update-2.result.now) ≡ statement c.args.stmt.now = search (rules, the_lemmas) in
     steps_at (library c.args.self.now.lib.now) (level_at (library c.args.self.now.lib.now) c.args.context.now.env.time c.args.context.now.depth)
-    (context c.args.context.now) c.args.view.now c.signal_event-in-Update.new.view (course c.args.course.now) (course c.signal_event-in-Update.new.course) c.signal_event-in-Update.result is (c.signal_event-in-Update.ensures _ c.args.view.now c.update_object.ensures)
+    (context c.args.context.now) c.args.view.now c.signal_event-in-Update.new.view (course c.args.course.now)
+    (course c.signal_event-in-Update.new.course) c.signal_event-in-Update.result is (c.signal_event-in-Update.ensures _ c.args.view.now c.update_object.ensures)
 
 pub Engine::statement-returns-in-Delete : goal.Engine::statement-returns-in-Delete
 Engine::statement-returns-in-Delete g t c =
     let is : R.delete c.in-Delete.class (expression c.deref-in-Delete.result.now) ≡ statement c.args.stmt.now = search (rules, the_lemmas) in
     steps_at (library c.args.self.now.lib.now) (level_at (library c.args.self.now.lib.now) c.args.context.now.env.time c.args.context.now.depth)
-    (context c.args.context.now) c.args.view.now c.signal_event-in-Delete.new.view (course c.args.course.now) (course c.signal_event-in-Delete.new.course) c.signal_event-in-Delete.result is (c.signal_event-in-Delete.ensures _ c.args.view.now c.delete_object.ensures)
+    (context c.args.context.now) c.args.view.now c.signal_event-in-Delete.new.view (course c.args.course.now)
+    (course c.signal_event-in-Delete.new.course) c.signal_event-in-Delete.result is (c.signal_event-in-Delete.ensures _ c.args.view.now c.delete_object.ensures)
 
 pub Engine::statement-returns-in-Signal : goal.Engine::statement-returns-in-Signal
 Engine::statement-returns-in-Signal g t c =
     let is : R.signal c.deref-in-Signal.result.now (map expression c.deref-in-Signal-2.result.now) ≡ statement c.args.stmt.now = search (rules, the_lemmas) in
     let level = level_at (library c.args.self.now.lib.now) c.args.context.now.env.time c.args.context.now.depth in
     let values = values_of (context c.args.context.now).environment (map expression c.deref-in-Signal-2.result.now) in
-    steps_at (library c.args.self.now.lib.now) level (context c.args.context.now) c.args.view.now c.signal_event-in-Signal.new.view (course c.args.course.now) (course c.signal_event-in-Signal.new.course) c.signal_event-in-Signal.result is
+    steps_at (library c.args.self.now.lib.now) level (context c.args.context.now) c.args.view.now c.signal_event-in-Signal.new.view
+    (course c.args.course.now) (course c.signal_event-in-Signal.new.course) c.signal_event-in-Signal.result is
     (c.signal_event-in-Signal.ensures _ c.args.view.now (signal_makes primitive (library c.args.self.now.lib.now) level c.deref-in-Signal.result.now
     values c.args.view.now c.make_signal.result c.make_signal.ensures))
 
@@ -296,7 +300,8 @@ pub Engine::statement-returns-in-Emit : goal.Engine::statement-returns-in-Emit
 Engine::statement-returns-in-Emit g t c =
     let is : R.emit (expression c.deref-in-Emit.result.now) ≡ statement c.args.stmt.now = search (rules, the_lemmas) in
     steps_at (library c.args.self.now.lib.now) (level_at (library c.args.self.now.lib.now) c.args.context.now.env.time c.args.context.now.depth)
-    (context c.args.context.now) c.args.view.now c.args.view.now (course c.args.course.now) (course c.emit.new.course) c.emit.result is (c.emit.ensures c.args.view.now (library c.args.self.now.lib.now)
+    (context c.args.context.now) c.args.view.now c.args.view.now (course c.args.course.now) (course c.emit.new.course) c.emit.result is
+    (c.emit.ensures c.args.view.now (library c.args.self.now.lib.now)
     (level_at (library c.args.self.now.lib.now) c.args.context.now.env.time c.args.context.now.depth))
 
 pub Engine::statement-returns-in-If : goal.Engine::statement-returns-in-If
@@ -379,7 +384,8 @@ pub Engine::run_branch-returns-in_err-is_true : goal.Engine::run_branch-returns-
 Engine::run_branch-returns-in_err-is_true g t c =
     let p = err_from_is_err_and c.from_residual.result c.from_residual.ensures.1 in
     rw (p.1, p.2)
-    (steps_halt (course c.args.course.now) (λ b. b) (λ S b. choose b (run_body (body_in c.args.then_body.now) (level_at (library c.args.self.now.lib.now) c.args.context.now.env.time c.args.context.now.depth)
+    (steps_halt (course c.args.course.now) (λ b. b)
+    (λ S b. choose b (run_body (body_in c.args.then_body.now) (level_at (library c.args.self.now.lib.now) c.args.context.now.env.time c.args.context.now.depth)
     (context c.args.context.now)) (run_body (body_in c.args.else_body.now) (level_at (library c.args.self.now.lib.now) c.args.context.now.env.time c.args.context.now.depth)
     (context c.args.context.now)))
     (boolean_value (context c.args.context.now).environment (expression c.args.condition.now)) c.in_err-is_true.field-0.0 (library c.args.self.now.lib.now) c.args.view.now c.in_err-is_true.ensures)
@@ -402,7 +408,8 @@ pub Engine::each_found-returns-in_err-rows : goal.Engine::each_found-returns-in_
 Engine::each_found-returns-in_err-rows g t c =
     let p = err_from_is_err_and c.from_residual.result c.from_residual.ensures.1 in
     rw (p.1, p.2)
-    (found_halt (course c.args.course.now) keyed_rows (λ rows. for_each rows (λ r. run_body (body_in c.args.body.now) (level_at (library c.args.self.now.lib.now) c.args.context.now.env.time c.args.context.now.depth)
+    (found_halt (course c.args.course.now) keyed_rows
+    (λ rows. for_each rows (λ r. run_body (body_in c.args.body.now) (level_at (library c.args.self.now.lib.now) c.args.context.now.env.time c.args.context.now.depth)
     (with_row c.args.selection.variable.now r (context c.args.context.now))))
     (λ S. answer (context c.args.context.now).environment c.args.selection.variable.now c.args.selection.class (expression c.args.selection.predicate.now) S.objects) c.in_err-rows.field-0.0
     (library c.args.self.now.lib.now) c.args.view.now c.select_rows.new.view c.in_err-rows.ensures)
