@@ -13,7 +13,6 @@ import signal
 import subprocess
 import sys
 import tempfile
-import threading
 import time
 
 from harness import LIMIT, TOP, expect, run_checks
@@ -337,9 +336,7 @@ def ends_its_parts(tree):
 def leaves_the_status(_tree):
     """What ends a command leaves its status for the thread that waits for it, however late that does."""
     command = running.start(["sh", "-c", "sleep 300 & wait"], start_new_session=True)
-    ending = threading.Thread(target=lambda: running.stop_group(command))
-    ending.start()
-    ending.join(LIMIT)
+    running.stop_group(command)
     running.wait_and_measure(command)
     expect(command.returncode, -signal.SIGTERM, "status")
 

@@ -35,6 +35,13 @@ def expect(found, wanted, what) -> None:
         raise Failed(f"{what}: {str(found)[-MOST_SHOWN:]!r}, and not {str(wanted)[-MOST_SHOWN:]!r}")
 
 
+def files_of_git(*patterns: str) -> list[str]:
+    """The paths of the files that git knows or would add, below the top, if they are there."""
+    words = ["git", "ls-files", "-z", "--cached", "--others", "--exclude-standard", *patterns]
+    paths = subprocess.check_output(words, cwd=TOP, text=True).split("\0")
+    return [path for path in paths if os.path.isfile(os.path.join(TOP, path))]
+
+
 def bytes_of(path: str) -> bytes:
     with open(path, "rb") as file:
         return file.read()

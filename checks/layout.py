@@ -12,7 +12,7 @@ import os
 import subprocess
 import sys
 
-from harness import TOP, Failed, repo, run_checks
+from harness import TOP, Failed, files_of_git, repo, run_checks
 
 ENDINGS = (".rt", ".antt")
 
@@ -38,13 +38,6 @@ def expect_short_lines(paths):
                     raise Failed(f"{os.path.relpath(path, TOP)}:{number}: more than {most} columns")
 
 
-def documents():
-    """The paths of the documents that git knows or would add."""
-    words = ["git", "ls-files", "-z", "--cached", "--others", "--exclude-standard", "*.md"]
-    paths = subprocess.check_output(words, cwd=TOP, text=True).split("\0")
-    return [path for path in (os.path.join(TOP, it) for it in paths if it) if os.path.isfile(path)]
-
-
 def check(name):
     """Fails if a file of this crate isn't in the layout."""
     expect_short_lines(files_of(name))
@@ -55,7 +48,8 @@ def check(name):
 
 
 def main():
-    checks = [("documents", lambda: expect_short_lines(documents()))]
+    documents = [os.path.join(TOP, path) for path in files_of_git("*.md")]
+    checks = [("documents", lambda: expect_short_lines(documents))]
     return run_checks([*checks, *((name, lambda name=name: check(name)) for name in repo.crates())], jobs=4)
 
 

@@ -13,7 +13,7 @@ import subprocess
 import sys
 import tempfile
 
-from harness import TOP, Failed, run_checks
+from harness import TOP, Failed, files_of_git, run_checks
 
 # Rules of pycodestyle that aren't ours: imports after a change of the path, operators at a line's beginning or end,
 # lambdas with a name, a space before the colon of a slice, and how a continued line is indented.
@@ -41,9 +41,7 @@ TYPED = ("tools", "client", "order desk")
 
 def scripts():
     """The paths of all files of Python that git knows or would add."""
-    words = ["git", "ls-files", "-z", "--cached", "--others", "--exclude-standard"]
-    paths = subprocess.check_output(words, cwd=TOP, text=True).split("\0")
-    return [path for path in paths if os.path.isfile(os.path.join(TOP, path)) and is_python(os.path.join(TOP, path))]
+    return [path for path in files_of_git() if is_python(os.path.join(TOP, path))]
 
 
 def is_python(path):
