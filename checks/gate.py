@@ -16,6 +16,7 @@ import tempfile
 import time
 
 from harness import LIMIT, TOP, expect, run_checks
+import more_edits
 import running
 
 # The scripts that the parts run. Each fake one says what the notes' file of its name has, and ends with the status on
@@ -341,6 +342,28 @@ def leaves_the_status(_tree):
     expect(command.returncode, -signal.SIGTERM, "status")
 
 
+# What a check of an edit may say, with its status, and what the edit comes to by that.
+NOT_PROVED = "only=1 proved=0"
+SAID = (
+    (0, ["only=1 proved=1"], more_edits.PROVED),
+    (1, ["fn app::f: no proof: expected answers in ./proofs/f/Answers.antt; `search` did not prove `returns`",
+         NOT_PROVED], more_edits.REFUSED),
+    (1, ["note: src/lib.rt:3:5: it is not proved that what the function ensures holds when it returns (`returns`); "
+         "`search` gave up at one of its limits", NOT_PROVED], more_edits.AT_LIMIT),
+    (1, ["./proofs/f/Answers.antt:3:5: error: `returns`: `goal` has no field `in-Ok`", NOT_PROVED], more_edits.BY_NAME),
+    (1, ["src/lib.rt:3:5: error: unknown field `rule`"], more_edits.BAD),
+    (1, ["fn app::f: no proof: expected `f_spec` in ./proofs/f/Proof.antt; the borrow checker does not cover this "
+         "function yet", NOT_PROVED], more_edits.BAD),
+    (-9, ["statements std: modules loaded=115 checked=0"], more_edits.NOT_JUDGED),
+)
+
+
+def judges_edits(_tree):
+    """What an edit comes to by what its check says: only a contract that fails refuses it."""
+    for status, lines, kind in SAID:
+        expect(more_edits.came_to(status, lines, {"src/lib.rt": ""})[0], kind, lines[0])
+
+
 def missing_program(_tree):
     """`checks/programs.py --proved` fails if there is no such program."""
     words = [os.path.join(TOP, "checks", "programs.py"), "--proved", "/nowhere"]
@@ -364,6 +387,7 @@ CHECKS = (
     proves_a_copy,
     ends_its_parts,
     leaves_the_status,
+    judges_edits,
     missing_program,
 )
 

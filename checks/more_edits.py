@@ -47,8 +47,8 @@ UNTRIED = "# untried"
 
 # What an edit can come to. The second: the only complaints are of a proof file that names what the edit took away, so
 # that no contract was tried. The third: `search` found no proof within its limits, and the contract may still hold. A
-# bad edit doesn't apply, or makes a text that can't be read. One isn't judged if the check tried no contract, as where
-# memory ran out.
+# bad edit doesn't apply, or makes a text that the prover can't read or has no proof of. One isn't judged if the check
+# ended before, as where memory ran out.
 REFUSED = "refused"
 BY_NAME = "only refused since a proof names what it took away"
 AT_LIMIT = "only refused at a limit of search"
@@ -389,7 +389,7 @@ def came_to(status, lines, changed):
     if told:
         return BY_NAME, told[0]
     # (as where the borrow checker doesn't cover the function: no contract was tried)
-    return NOT_JUDGED, next((line for line in lines if NO_PROOF.match(line)), lines[-1])
+    return BAD, next((line for line in lines if NO_PROOF.match(line)), lines[-1])
 
 
 class Room:

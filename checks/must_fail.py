@@ -12,11 +12,11 @@ that they call, and at nothing else: each function is proved against the contrac
 the prover complains of the function that it changes. What that doesn't show to be refused is then tried alone, in a
 check of the whole crate, as is an edit of a definition.
 
-An edit has failed if the crate is still proved with it, if the prover can't read it, or if the prover complains only of
-a proof that names what the edit took away: then no contract was tried. It isn't counted if a search only ended at a
-limit, or if the check itself ended before. As many crates are tried side by side as there are processors, and memory
-for them, quick ones first. With --until no check begins after that moment of the system's monotonic clock, in seconds,
-and the edits that are left are told. The last line is 'N passed, M failed'.
+An edit has failed if the crate is still proved with it, if the prover can't read it or its borrow checker doesn't cover
+it, or if the prover complains only of a proof that names what the edit took away: then no contract was tried. It isn't
+counted if a search only ended at a limit, or if the check itself ended before. As many crates are tried side by side as
+there are processors, and memory for them, quick ones first. With --until no check begins after that moment of the
+system's monotonic clock, in seconds, and the edits that are left are told. The last line is 'N passed, M failed'.
 """
 
 import argparse
